@@ -1,0 +1,1 @@
+// Code 20: the entries.

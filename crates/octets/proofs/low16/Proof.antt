@@ -1,0 +1,20 @@
+use borrow.Author.Needs.{needs}
+use Rattle.octets.proofs.low16.Statement.{statement}
+use Rattle.octets.proofs.low16.Tie as tie
+use Rattle.octets.proofs.low16.Reads as reads
+use Rattle.octets.proofs.low16.Lts as lts
+
+-- src/lib.rt:60:6
+cast-t3 : tie.Need-cast-t3
+cast-t3 c = search needs
+
+-- src/lib.rt:60:23
+cast-t6 : tie.Need-cast-t6
+cast-t6 c = search needs
+
+-- src/lib.rt:57:1
+returns : tie.Need-returns
+returns c = ?
+
+pub low16-spec : {M : Type 1} → statement M
+low16-spec = tie.close (tie.spec cast-t3 cast-t6 returns)

@@ -1,0 +1,28 @@
+use borrow.Author.Needs.{needs}
+use Rattle.octets.proofs.low32.Statement.{statement}
+use Rattle.octets.proofs.low32.Tie as tie
+use Rattle.octets.proofs.low32.Reads as reads
+use Rattle.octets.proofs.low32.Lts as lts
+
+-- src/lib.rt:68:9
+cast-t3 : tie.Need-cast-t3
+cast-t3 c = search needs
+
+-- src/lib.rt:69:9
+cast-t6 : tie.Need-cast-t6
+cast-t6 c = search needs
+
+-- src/lib.rt:70:9
+cast-t10 : tie.Need-cast-t10
+cast-t10 c = search needs
+
+-- src/lib.rt:71:9
+cast-t15 : tie.Need-cast-t15
+cast-t15 c = search needs
+
+-- src/lib.rt:64:1
+returns : tie.Need-returns
+returns c = ?
+
+pub low32-spec : {M : Type 1} → statement M
+low32-spec = tie.close (tie.spec cast-t3 cast-t6 cast-t10 cast-t15 returns)

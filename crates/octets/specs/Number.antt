@@ -1,0 +1,66 @@
+-- Numbers of several bytes, low byte first (paper 01, first paragraph), and the laws that hold at every width.
+use Prim.Native.Nat.{ℕ, zero, suc, _+_, _*_, _/_, _%_, _^_, _<_, _≤_}
+use mathlib.Core.Path.{_≡_, refl, ap, _∙_, sym}
+use mathlib.Core.List.{List, [], _∷_, _++_}
+use native.Mathlib.Omega.{arith}
+use native.Mathlib.Nat.{pow-succ', add-zero}
+use lib.ListN.{length, getD, take, drop}
+use lib.Seq.{take-nil, getD-drop, drop-drop}
+
+-- the number that bytes make, low byte first
+unfoldable pub number : List ℕ → ℕ
+number [] = 0
+number (b ∷ bs) = b + 256 * number bs
+
+-- the n low bytes of a number, low byte first
+unfoldable pub low : ℕ → ℕ → List ℕ
+low zero x = []
+low (suc n) x = x % 256 ∷ low n (x / 256)
+
+-- every element is a byte
+abbrev pub Octets : List ℕ → Type 0
+Octets xs = (k : ℕ) → k < length xs → getD xs k 0 < 256
+
+pub octets-tail : (x : ℕ) (xs : List ℕ) → Octets (x ∷ xs) → Octets xs
+octets-tail x xs h k l = h (suc k) (omega arith)
+
+pub length-low : (n x : ℕ) → length (low n x) ≡ n
+unfolding low
+length-low zero x = refl
+length-low (suc n) x = ap suc (length-low n (x / 256))
+
+-- n bytes make a number below 256 ^ n
+pub number-bound : (xs : List ℕ) → Octets xs → number xs < 256 ^ length xs
+unfolding number
+number-bound [] h = omega arith
+number-bound (x ∷ xs) h =
+    rw (pow-succ' 256 (length xs)) (omega (arith, number-bound xs (octets-tail x xs h), h 0 (omega arith)))
+
+-- reading the low bytes of a number yields the number, where it has no further ones
+pub number-low : (n x : ℕ) → x < 256 ^ n → number (low n x) ≡ x
+unfolding number low
+number-low zero x h = omega arith
+number-low (suc n) x h =
+    let below : x < 256 * 256 ^ n = rw pow-succ' at h in
+    let rest : number (low n (x / 256)) ≡ x / 256 = number-low n (x / 256) (omega arith) in
+    omega arith
+
+-- the low bytes of the number that bytes make are those bytes
+pub low-number : (xs : List ℕ) → Octets xs → low (length xs) (number xs) ≡ xs
+unfolding number low
+low-number [] h = refl
+low-number (x ∷ xs) h =
+    let b : x < 256 = h 0 (omega arith) in
+    let first : (x + 256 * number xs) % 256 ≡ x = omega arith in
+    let rest : (x + 256 * number xs) / 256 ≡ number xs = omega arith in
+    rw (first, rest, low-number xs (octets-tail x xs h))
+
+-- the number of the first n + 1 bytes, from the first byte on; a byte past the end counts as 0
+pub number-take : (n : ℕ) (xs : List ℕ) → number (take (suc n) xs) ≡ getD xs 0 0 + 256 * number (take n (drop 1 xs))
+unfolding number
+number-take n [] = rw take-nil
+number-take n (x ∷ xs) = refl
+
+-- the number of n + 1 bytes at a place: the byte there, then the number of the n after it
+pub number-at : (n at : ℕ) (xs : List ℕ) → number (take (suc n) (drop at xs)) ≡ getD xs at 0 + 256 * number (take n (drop (at + 1) xs))
+number-at n at xs = rw (number-take, getD-drop, drop-drop, add-zero)

@@ -1,0 +1,95 @@
+// Numbers low byte first, and frames laid into a lent buffer.
+ghost use mathlib.Core.Path.{_≡_};
+ghost use mathlib.Core.List.{_++_};
+ghost use Prim.Native.Nat.{_+_, _*_};
+ghost use lib.ListN.{getD, take, drop};
+ghost use Rattle.octets.specs.Number.{number, low};
+ghost use Rattle.octets.specs.Lay.{laid, Came};
+
+// What a writer answers.
+pub enum Written {
+    // The frame's length: that many bytes stand at the buffer's start.
+    Length(usize),
+    // A refusal, by paper 01's number. The buffer is unchanged.
+    Refused(u8),
+}
+
+fn join16(a: u8, b: u8) -> u16
+    ensures { λ r. ⌜ r ≡ a + 256 * b ⌝ }
+{
+    a as u16 + 256 * (b as u16)
+}
+
+fn join32(a: u8, b: u8, c: u8, d: u8) -> u32
+    ensures { λ r. ⌜ r ≡ a + 256 * (b + 256 * (c + 256 * d)) ⌝ }
+{
+    a as u32 + 256 * (b as u32 + 256 * (c as u32 + 256 * (d as u32)))
+}
+
+// The byte at a place, or 0 past the end.
+fn octet(s: &[u8], at: usize) -> u8
+    ensures { λ r. ⌜ r ≡ getD (now (s .entry)) at 0 ⌝ }
+{
+    if at < s.len() { s[at] } else { 0 }
+}
+
+// The number of the two bytes from `at` on; bytes past the end count as 0.
+pub fn word16(s: &[u8], at: usize) -> u16
+    ensures { λ r. ⌜ r ≡ number (take 2 (drop at (now (s .entry)))) ⌝ }
+{
+    if s.len() < at {
+        return 0;
+    }
+    join16(octet(s, at), octet(s, at + 1))
+}
+
+// The number of the four bytes from `at` on; bytes past the end count as 0.
+pub fn word32(s: &[u8], at: usize) -> u32
+    ensures { λ r. ⌜ r ≡ number (take 4 (drop at (now (s .entry)))) ⌝ }
+{
+    if s.len() < at {
+        return 0;
+    }
+    join32(octet(s, at), octet(s, at + 1), octet(s, at + 2), octet(s, at + 3))
+}
+
+// The two bytes of a number.
+pub fn low16(x: u16) -> [u8; 2]
+    ensures { λ r. ⌜ r ≡ low 2 x ⌝ }
+{
+    [(x % 256) as u8, (x / 256 % 256) as u8]
+}
+
+// The four bytes of a number.
+pub fn low32(x: u32) -> [u8; 4]
+    ensures { λ r. ⌜ r ≡ low 4 x ⌝ }
+{
+    [
+        (x % 256) as u8,
+        (x / 256 % 256) as u8,
+        (x / 256 / 256 % 256) as u8,
+        (x / 256 / 256 / 256 % 256) as u8,
+    ]
+}
+
+// Lays a frame's head, body and tail one after the other into a lent buffer.
+pub fn lay(head: &[u8], body: &[u8], tail: &[u8], out: &mut [u8]) -> Written
+    ensures { λ r. ⌜ Came (laid (now (head .entry) ++ (now (body .entry) ++ now (tail .entry))) (now (out .entry))) r (now (out .exit)) ⌝ }
+{
+    let h = head.len();
+    let m = h + body.len();
+    if 1500 < m {
+        return Written::Refused(2);
+    }
+    let n = m + tail.len();
+    if 1500 < n {
+        return Written::Refused(2);
+    }
+    if out.len() < n {
+        return Written::Refused(9);
+    }
+    bytes::copy(head, out);
+    bytes::copy(body, &mut out[h..]);
+    bytes::copy(tail, &mut out[m..]);
+    Written::Length(n)
+}
