@@ -1,11 +1,11 @@
 -- Numbers of several bytes, low byte first (paper 01, first paragraph), and the laws that hold at every width.
-use Prim.Native.Nat.{ℕ, zero, suc, _+_, _*_, _/_, _%_, _^_, _<_, _≤_}
+use Prim.Native.Nat.{ℕ, zero, suc, _+_, _-_, _*_, _/_, _%_, _^_, _<_, _≤_, min}
 use mathlib.Core.Path.{_≡_, refl, ap, _∙_, sym}
 use mathlib.Core.List.{List, [], _∷_, _++_}
 use native.Mathlib.Omega.{arith}
-use native.Mathlib.Nat.{pow-succ', add-zero}
-use lib.ListN.{length, getD, take, drop}
-use lib.Seq.{take-nil, getD-drop, drop-drop}
+use native.Mathlib.Nat.{pow-succ', pow-le-pow-right, lt-of-lt-of-le, add-zero, add-assoc}
+use lib.ListN.{length, getD, take, drop, length-take, length-drop}
+use lib.Seq.{take-nil, getD-take, getD-drop, drop-drop}
 
 -- the number that bytes make, low byte first
 unfoldable pub number : List ℕ → ℕ
@@ -29,12 +29,24 @@ unfolding low
 length-low zero x = refl
 length-low (suc n) x = ap suc (length-low n (x / 256))
 
+-- the bytes of a part are bytes
+pub octets-part : (n at : ℕ) (xs : List ℕ) → Octets xs → Octets (take n (drop at xs))
+octets-part n at xs h k l =
+    let b : k < min n (length xs - at) = simp (length-take, length-drop) at l in
+    rw (getD-take n (drop at xs) k 0 (omega arith), getD-drop) (h (at + k) (omega arith))
+
 -- n bytes make a number below 256 ^ n
 pub number-bound : (xs : List ℕ) → Octets xs → number xs < 256 ^ length xs
 unfolding number
 number-bound [] h = omega arith
 number-bound (x ∷ xs) h =
     rw (pow-succ' 256 (length xs)) (omega (arith, number-bound xs (octets-tail x xs h), h 0 (omega arith)))
+
+-- the number of at most n bytes at a place
+pub part-bound : (n at : ℕ) (xs : List ℕ) → Octets xs → number (take n (drop at xs)) < 256 ^ n
+part-bound n at xs h =
+    let size : length (take n (drop at xs)) ≤ n = simp (length-take, length-drop) (omega arith) in
+    lt-of-lt-of-le (number-bound (take n (drop at xs)) (octets-part n at xs h)) (pow-le-pow-right (omega arith) size)
 
 -- reading the low bytes of a number yields the number, where it has no further ones
 pub number-low : (n x : ℕ) → x < 256 ^ n → number (low n x) ≡ x
@@ -64,3 +76,8 @@ number-take n (x ∷ xs) = refl
 -- the number of n + 1 bytes at a place: the byte there, then the number of the n after it
 pub number-at : (n at : ℕ) (xs : List ℕ) → number (take (suc n) (drop at xs)) ≡ getD xs at 0 + 256 * number (take n (drop (at + 1) xs))
 number-at n at xs = rw (number-take, getD-drop, drop-drop, add-zero)
+
+-- the same, k bytes further on
+pub number-on : (n k at : ℕ) (xs : List ℕ)
+    → number (take (suc n) (drop (at + k) xs)) ≡ getD xs (at + k) 0 + 256 * number (take n (drop (at + (k + 1)) xs))
+number-on n k at xs = rw (number-at n (at + k) xs, add-assoc at k 1)

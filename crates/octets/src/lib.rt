@@ -4,7 +4,7 @@ ghost use mathlib.Core.List.{_++_};
 ghost use Prim.Native.Nat.{_+_, _*_};
 ghost use lib.ListN.{getD, take, drop};
 ghost use Rattle.octets.specs.Number.{number, low};
-ghost use Rattle.octets.specs.Lay.{laid, Came};
+ghost use Rattle.octets.specs.Lay.{fits, put, laid, Came};
 
 // What a writer answers.
 pub enum Written {
@@ -72,24 +72,60 @@ pub fn low32(x: u32) -> [u8; 4]
     ]
 }
 
-// Lays a frame's head, body and tail one after the other into a lent buffer.
-pub fn lay(head: &[u8], body: &[u8], tail: &[u8], out: &mut [u8]) -> Written
-    ensures { λ r. ⌜ Came (laid (now (head .entry) ++ (now (body .entry) ++ now (tail .entry))) (now (out .entry))) r (now (out .exit)) ⌝ }
+// Lays bytes over a lent buffer from a place on, and says whether they fit there. If not, nothing changes.
+pub fn put(src: &[u8], out: &mut [u8], at: usize) -> bool
+    ensures { λ r. ⌜ (r ≡ fits (now (src .entry)) at (now (out .entry)))
+        × (now (out .exit) ≡ put (now (src .entry)) at (now (out .entry))) ⌝ }
 {
-    let h = head.len();
-    let m = h + body.len();
-    if 1500 < m {
+    if out.len() < at {
+        return false;
+    }
+    if out.len() - at < src.len() {
+        return false;
+    }
+    bytes::copy(src, &mut out[at..]);
+    true
+}
+
+// Lays a frame's four parts one after the other into a lent buffer.
+pub fn lay_four(head: &[u8], body: &[u8], tail: &[u8], rest: &[u8], out: &mut [u8]) -> Written
+    ensures { λ r. ⌜ Came (laid (now (head .entry) ++ (now (body .entry) ++ (now (tail .entry) ++ now (rest .entry)))) (now (out .entry))) r (now (out .exit)) ⌝ }
+{
+    let a = head.len();
+    let b = a + body.len();
+    if 1500 < b {
         return Written::Refused(2);
     }
-    let n = m + tail.len();
-    if 1500 < n {
+    let c = b + tail.len();
+    if 1500 < c {
         return Written::Refused(2);
     }
-    if out.len() < n {
+    let d = c + rest.len();
+    if 1500 < d {
+        return Written::Refused(2);
+    }
+    if out.len() < d {
         return Written::Refused(9);
     }
-    bytes::copy(head, out);
-    bytes::copy(body, &mut out[h..]);
-    bytes::copy(tail, &mut out[m..]);
-    Written::Length(n)
+    put(head, out, 0);
+    put(body, out, a);
+    put(tail, out, b);
+    put(rest, out, c);
+    Written::Length(d)
+}
+
+// Lays a frame's three parts.
+pub fn lay_three(head: &[u8], body: &[u8], tail: &[u8], out: &mut [u8]) -> Written
+    ensures { λ r. ⌜ Came (laid (now (head .entry) ++ (now (body .entry) ++ now (tail .entry))) (now (out .entry))) r (now (out .exit)) ⌝ }
+{
+    let none = [0u8; 0];
+    lay_four(head, body, tail, &none, out)
+}
+
+// Lays a frame's two parts.
+pub fn lay(head: &[u8], body: &[u8], out: &mut [u8]) -> Written
+    ensures { λ r. ⌜ Came (laid (now (head .entry) ++ now (body .entry)) (now (out .entry))) r (now (out .exit)) ⌝ }
+{
+    let none = [0u8; 0];
+    lay_three(head, body, &none, out)
 }

@@ -1,4 +1,6 @@
 use borrow.Author.Needs.{needs}
+use mathlib.Core.Path.{refl}
+use Rattle.octets.specs.Number.{low}
 use Rattle.octets.proofs.low16.Statement.{statement}
 use Rattle.octets.proofs.low16.Tie as tie
 use Rattle.octets.proofs.low16.Reads as reads
@@ -14,7 +16,8 @@ cast-t6 c = search needs
 
 -- src/lib.rt:57:1
 returns : tie.Need-returns
-returns c = ?
+unfolding low
+returns c = refl
 
 pub low16-spec : {M : Type 1} → statement M
 low16-spec = tie.close (tie.spec cast-t3 cast-t6 returns)

@@ -1,4 +1,6 @@
 use borrow.Author.Needs.{needs}
+use mathlib.Core.Path.{refl}
+use Rattle.octets.specs.Number.{low}
 use Rattle.octets.proofs.low32.Statement.{statement}
 use Rattle.octets.proofs.low32.Tie as tie
 use Rattle.octets.proofs.low32.Reads as reads
@@ -22,7 +24,8 @@ cast-t15 c = search needs
 
 -- src/lib.rt:64:1
 returns : tie.Need-returns
-returns c = ?
+unfolding low
+returns c = refl
 
 pub low32-spec : {M : Type 1} → statement M
 low32-spec = tie.close (tie.spec cast-t3 cast-t6 cast-t10 cast-t15 returns)

@@ -1,4 +1,6 @@
 use borrow.Author.Needs.{needs}
+use native.Mathlib.Omega.{arith}
+use lib.ListN.{List·getD-eq-default}
 use Rattle.octets.proofs.octet.Statement.{statement}
 use Rattle.octets.proofs.octet.Tie as tie
 use Rattle.octets.proofs.octet.Reads as reads
@@ -14,7 +16,7 @@ returns c = search needs
 
 -- src/lib.rt:30:1
 returns-2 : tie.Need-returns-2
-returns-2 c = ?
+returns-2 c = rw (List·getD-eq-default (c .before .args .s .now) 0 {n = c .before .args .at} (omega arith))
 
 pub octet-spec : {M : Type 1} → statement M
 octet-spec = tie.close (tie.spec shared-slice-read-result returns returns-2)

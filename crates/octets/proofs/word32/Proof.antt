@@ -1,4 +1,8 @@
 use borrow.Author.Needs.{needs}
+use native.Mathlib.Omega.{arith}
+use Rattle.octets.specs.Number.{number, number-at, number-on}
+use lib.ListN.{drop-of-length-le, take}
+use lib.Seq.{take-nil}
 use Rattle.octets.proofs.word32.Statement.{statement}
 use Rattle.octets.proofs.word32.Tie as tie
 use Rattle.octets.proofs.word32.Reads as reads
@@ -8,7 +12,8 @@ use Rattle.octets.proofs.octet.Reads as octet-reads
 
 -- src/lib.rt:51:9
 returns : tie.Need-returns
-returns c = ?
+unfolding number
+returns c = rw (drop-of-length-le (c .before .before .args .s .now) {i = c .before .before .args .at} (omega arith))
 
 -- src/lib.rt:53:12
 octet-requires : tie.Need-octet-requires
@@ -44,7 +49,11 @@ join32-requires c κs = search needs
 
 -- src/lib.rt:47:1
 returns-2 : tie.Need-returns-2
-returns-2 c = ?
+unfolding number
+returns-2 c =
+    let s = c .before .before .before .before .before .before .before .args .s .now in
+    let at = c .before .before .before .before .before .before .before .args .at in
+    omega (arith, number-at 3 at s, number-on 2 1 at s, number-on 1 2 at s, number-on 0 3 at s)
 
 pub word32-spec : {M : Type 1} → statement M
 word32-spec =

@@ -1,0 +1,238 @@
+//! How long the proved library takes beside the plain implementation: the
+//! reader, the image check and the segment call.
+//!
+//! Both get the same inputs in one run, in turns, and borrow what they read:
+//! neither allocates, and no buffer is written.
+
+use std::hint::black_box;
+use std::time::{Duration, Instant};
+
+/// Turns that each of the two gets; the medians are printed.
+const ROUNDS: usize = 41;
+/// The least time for a turn.
+const TURN: Duration = Duration::from_millis(4);
+const SEGMENT_SIZE: u32 = 1490;
+
+fn main() {
+    println!(
+        "{:<36}{:>12}{:>12}{:>9}",
+        "ns per call, median", "proved", "plain", "ratio"
+    );
+    let mut mix = Vec::new();
+    for (name, frames) in [
+        ("read, small frames", small_frames()),
+        ("read, 1,500-byte frames", long_frames()),
+        ("read, code 20 with names", vec![parameters(&names())]),
+        (
+            "read, code 20 with names and times",
+            vec![parameters(&names_and_times())],
+        ),
+        (
+            "read, code 20 of 1,500 bytes, names",
+            vec![parameters(&filling(&name(1, 16)))],
+        ),
+        (
+            "read, code 20 of 1,500 bytes, times",
+            vec![parameters(&filling(&time()))],
+        ),
+    ] {
+        read(name, &frames);
+        mix.extend(frames);
+    }
+    read("read, all of these", &mix);
+    for (regions, bytes) in [(1, 60_000), (64, 60_000)] {
+        let file = image(regions, bytes);
+        check(&format!("image check, {regions} regions"), &file);
+        segment(&format!("image segment, {regions} regions"), &file);
+    }
+}
+
+fn read(name: &str, frames: &[Vec<u8>]) {
+    for frame in frames {
+        assert!(mop_plain::frame::read(frame).is_ok(), "a good frame");
+        assert_eq!(mop_proved::read(frame).refusal, 0, "a good frame");
+    }
+    compare(
+        name,
+        frames,
+        |frame| {
+            black_box(mop_proved::read(black_box(frame)));
+        },
+        |frame| {
+            let _ = black_box(mop_plain::frame::read(black_box(frame)));
+        },
+    );
+}
+
+fn check(name: &str, file: &[u8]) {
+    assert_eq!(
+        mop_proved::image_check(file, SEGMENT_SIZE).refusal,
+        0,
+        "a good image"
+    );
+    compare(
+        name,
+        &[file],
+        |file| {
+            black_box(mop_proved::image_check(black_box(file), SEGMENT_SIZE));
+        },
+        |file| {
+            let image = mop_plain::image::check(black_box(file), SEGMENT_SIZE);
+            let _ = black_box(image.map(|image| (image.segments(), image.transfer())));
+        },
+    );
+}
+
+/// Every segment in turn; each call checks the image too.
+fn segment(name: &str, file: &[u8]) {
+    let count = mop_proved::image_check(file, SEGMENT_SIZE).segments;
+    let indexes: Vec<u64> = (0..count).collect();
+    compare(
+        name,
+        &indexes,
+        |&index| {
+            black_box(mop_proved::image_segment(
+                black_box(file),
+                SEGMENT_SIZE,
+                index,
+            ));
+        },
+        |&index| {
+            let image = mop_plain::image::check(black_box(file), SEGMENT_SIZE);
+            let _ = black_box(image.map(|image| image.segment(index)));
+        },
+    );
+}
+
+/// Times both over the inputs, in turns, and prints a line.
+fn compare<T>(name: &str, inputs: &[T], proved: impl Fn(&T), plain: impl Fn(&T)) {
+    let passes = passes(inputs, &proved).max(passes(inputs, &plain));
+    let calls = (passes * inputs.len()) as f64;
+    let mut rounds = Vec::new();
+    for round in 0..ROUNDS {
+        let (first, second) = if round % 2 == 0 {
+            let first = turn(inputs, passes, &proved);
+            (first, turn(inputs, passes, &plain))
+        } else {
+            let second = turn(inputs, passes, &plain);
+            (turn(inputs, passes, &proved), second)
+        };
+        let nanoseconds = |time: Duration| time.as_nanos() as f64 / calls;
+        rounds.push((nanoseconds(first), nanoseconds(second)));
+    }
+    let of = |number: fn(&(f64, f64)) -> f64| median(rounds.iter().map(number).collect());
+    println!(
+        "{name:<36}{:>12.1}{:>12.1}{:>9.2}",
+        of(|round| round.0),
+        of(|round| round.1),
+        of(|round| round.0 / round.1),
+    );
+}
+
+/// How many passes over the inputs make a turn long enough.
+fn passes<T>(inputs: &[T], call: impl Fn(&T)) -> usize {
+    let mut passes = 1;
+    while turn(inputs, passes, &call) < TURN {
+        passes *= 2;
+    }
+    passes
+}
+
+fn turn<T>(inputs: &[T], passes: usize, call: impl Fn(&T)) -> Duration {
+    let start = Instant::now();
+    for _ in 0..passes {
+        for input in inputs {
+            call(input);
+        }
+    }
+    start.elapsed()
+}
+
+fn median(mut numbers: Vec<f64>) -> f64 {
+    numbers.sort_by(f64::total_cmp);
+    numbers[numbers.len() / 2]
+}
+
+/// A frame that begins so and is filled up to a length.
+fn frame(start: &[u8], length: usize) -> Vec<u8> {
+    let filling = (start.len()..length).map(|place| (place * 37 + 11) as u8);
+    start.iter().copied().chain(filling).collect()
+}
+
+fn small_frames() -> Vec<Vec<u8>> {
+    vec![
+        frame(&[10], 3),
+        frame(&[4], 7),
+        frame(&[1], 1),
+        frame(&[3], 1),
+        frame(&[8, 0, 1, 2, 255], 6),
+        frame(&[8, 0, 1, 2, 9], 30),
+        frame(&[12], 8),
+        frame(&[0], 10),
+        frame(&[2], 40),
+        frame(&[14], 37),
+        frame(&[24], 20),
+        frame(&[26], 20),
+    ]
+}
+
+fn long_frames() -> Vec<Vec<u8>> {
+    let starts: [&[u8]; 7] = [&[0], &[2], &[8, 0, 1, 2, 16], &[12], &[14], &[24], &[26]];
+    starts.iter().map(|start| frame(start, 1500)).collect()
+}
+
+fn parameters(entries: &[u8]) -> Vec<u8> {
+    [&[20, 0], entries, &[0, 0, 2, 0, 0]].concat()
+}
+
+fn name(kind: u8, length: usize) -> Vec<u8> {
+    [vec![kind, length as u8], vec![b'N'; length]].concat()
+}
+
+fn time() -> Vec<u8> {
+    vec![
+        5,
+        10,
+        20,
+        26,
+        2,
+        28,
+        23,
+        59,
+        59,
+        99,
+        256u16.wrapping_sub(5) as u8,
+        0,
+    ]
+}
+
+/// Target and host, name and address.
+fn names() -> Vec<u8> {
+    [name(1, 6), name(2, 2), name(3, 16), name(4, 6)].concat()
+}
+
+fn names_and_times() -> Vec<u8> {
+    [names(), time(), time()].concat()
+}
+
+/// One entry as often as a frame of 1,500 bytes has room for it.
+fn filling(entry: &[u8]) -> Vec<u8> {
+    entry.repeat(1493 / entry.len())
+}
+
+/// An image of equal regions with gaps between.
+fn image(regions: u32, bytes: u32) -> Vec<u8> {
+    let length = bytes / regions;
+    let mut file = frame(&[], (length * regions) as usize);
+    let directory = file.len() as u32;
+    for region in 0..regions {
+        for number in [region * (length + 100), region * length, length] {
+            file.extend(number.to_le_bytes());
+        }
+    }
+    file.extend(directory.to_le_bytes());
+    file.extend((regions as u16).to_le_bytes());
+    file.extend([0, 0, 0, 2, 0, 0]);
+    file.extend((file.len() as u32 + 4).to_le_bytes());
+    file
+}

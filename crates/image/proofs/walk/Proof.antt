@@ -1,0 +1,134 @@
+-- `image::walk` meets its contract. Between two turns `Rest` holds, and no more segments are passed than addresses.
+use Prim.Native.Nat.{_+_, _*_, _≤_}
+use mathlib.Core.Path.{_≡_, refl, sym, _∙_}
+use native.Mathlib.Omega.{arith}
+use borrow.Author.Needs.{needs}
+use Rattle.image.specs.Image.{addresses, entries, parts}
+use Rattle.image.specs.Laws.{Fit, fit}
+use Rattle.image.specs.Parts.{parts-bound}
+use Rattle.image.specs.Walk.{refused-tally}
+use Rattle.image.proofs.walk.Statement.{statement}
+use Rattle.image.proofs.walk.Tie as tie
+mod Turns
+use Turns.{Rest, start, turn, stop, done}
+
+abbrev Inv-loop : tie.InvT-loop
+Inv-loop file directory count size index segment₀ many₀ end₀ at₀ left₀ segment many end at left =
+    (at + 12 * left ≡ directory + 12 * count) ×
+    (many ≤ end) ×
+    (end ≤ addresses) ×
+    Rest directory size index end many segment (entries file at left) (entries file directory count)
+
+abbrev μ-loop : tie.MeasureT-loop
+μ-loop file directory count size index segment₀ many₀ end₀ at₀ left₀ segment many end at left = left
+
+-- the entry read is accepted
+fits : (c : tie.Else1 Inv-loop μ-loop)
+    → Fit
+    (c .before .before .before .before .before .before .before .args .directory)
+    (c .before .before .before .before .loop .end)
+    (c .before .before .read-entry .result)
+fits c = fit _ _ _ (sym (c .before .entry-refusal .ensures) ∙ c .if1 .left)
+
+-- it has no more parts than bytes
+few : (c : tie.After-parts Inv-loop μ-loop) → c .parts .result ≤ c .before .before .before .read-entry .result .length
+few c =
+    let start = c .before .before .before .before .before .before .before .before in
+    rw (c .parts .ensures) (parts-bound (start .args .size) (c .before .before .before .read-entry .result) (start .pre .1))
+
+no-region-requires : tie.Need-no-region-requires Inv-loop μ-loop
+no-region-requires c κs = search needs
+
+loop-holds : tie.Need-loop-holds Inv-loop μ-loop
+loop-holds c = (refl, omega arith, omega arith, start _ _ _ _ _)
+
+read-entry-requires : tie.Need-read-entry-requires Inv-loop μ-loop
+read-entry-requires c κs = omega arith
+
+entry-refusal-requires : tie.Need-entry-refusal-requires Inv-loop μ-loop
+entry-refusal-requires c κs = search needs
+
+refused-requires : tie.Need-refused-requires Inv-loop μ-loop
+refused-requires c κs = search needs
+
+returns : tie.Need-returns Inv-loop μ-loop
+returns c =
+    let turn = c .before .before .before .before in
+    let loop = turn .before .loop in
+    let wrong = c .before .before .entry-refusal .ensures in
+    let found = stop _ _ _ _ _ _ (loop .at) (loop .left) _ _ _ (c .before .before .before .read-entry .ensures) (turn .loop-test .taken) (loop .inv .3) in
+    refused-tally _ _ _ _ _ _ (c .refused .ensures) (c .before .if1 .taken) (wrong ∙ found (λ z. c .before .if1 .taken (wrong ∙ z)))
+
+parts-requires : tie.Need-parts-requires Inv-loop μ-loop
+parts-requires c κs = (c .before .before .before .before .before .before .before .pre .1, fits c .some)
+
+cast-next : tie.Need-cast-next Inv-loop μ-loop
+cast-next c = omega (arith, few c, fits (c .before))
+
+add-next : tie.Need-add-next Inv-loop μ-loop
+add-next c = omega (arith, few c, fits (c .before))
+
+reached-requires : tie.Need-reached-requires Inv-loop μ-loop
+reached-requires c κs =
+    let f = fits (c .before) in
+    (c .before .before .before .before .before .before .before .before .pre .1, omega (arith, c .parts .ensures), omega arith, f .below)
+
+cast-end : tie.Need-cast-end Inv-loop μ-loop
+cast-end c = omega (arith, fits (c .before .before .before))
+
+cast-end-2 : tie.Need-cast-end-2 Inv-loop μ-loop
+cast-end-2 c = omega (arith, fits (c .before .before .before .before))
+
+add-end : tie.Need-add-end Inv-loop μ-loop
+add-end c = omega (arith, fits (c .before .before .before .before))
+
+add-at : tie.Need-add-at Inv-loop μ-loop
+add-at c = omega arith
+
+sub-left : tie.Need-sub-left Inv-loop μ-loop
+sub-left c = omega arith
+
+loop-less : tie.Need-loop-less Inv-loop μ-loop
+loop-less c = omega arith
+
+loop-again : tie.Need-loop-again Inv-loop μ-loop
+loop-again c =
+    let passed = c .before .before .before .before in
+    let turn-start = passed .before .before .before in
+    let loop = turn-start .before .loop in
+    let f = fits passed in
+    let l = few (c .before .before .before) in
+    (omega arith,
+    omega arith,
+    f .below,
+    turn _ _ _ _ _ _ (loop .at) (loop .left) _ _ _ (passed .before .before .read-entry .ensures) (turn-start .loop-test .taken) (loop .inv .3) _
+    (sym (passed .before .entry-refusal .ensures) ∙ passed .if1 .left) (omega (arith, c .before .before .before .parts .ensures)) _
+    (c .before .before .reached .ensures))
+
+returns-2 : tie.Need-returns-2 Inv-loop μ-loop
+returns-2 c = done _ _ _ _ _ _ _ _ _ _ (c .loop-test .left) (c .before .loop .inv .3)
+
+pub walk-spec : {M : Type 1} → statement M
+walk-spec =
+    tie.close
+    (tie.spec
+    Inv-loop
+    μ-loop
+    no-region-requires
+    loop-holds
+    read-entry-requires
+    entry-refusal-requires
+    refused-requires
+    returns
+    parts-requires
+    cast-next
+    add-next
+    reached-requires
+    cast-end
+    cast-end-2
+    add-end
+    add-at
+    sub-left
+    loop-less
+    loop-again
+    returns-2)

@@ -1,0 +1,174 @@
+-- Image files (paper 01, 'Image file'): the fields, the refusals in their order, the segments, and what `check` and `segment` answer.
+-- A `Trailer`, a `Region` and the two answers are the code's own types.
+use Prim.Native.Nat.{ℕ, zero, suc, _+_, _-_, _*_, _/_, min}
+use mathlib.Core.Bool.{Bool, true, false}
+use mathlib.Core.List.{List, [], _∷_}
+use lib.ListN.{length, take, drop}
+use lib.Dec.{eqb, leb, ltb}
+use Rattle.octets.specs.Number.{number}
+use Rattle.octets.specs.Lay.{pick}
+use Rattle.image.specs.declared.Trailer.{Trailer}
+use Rattle.image.specs.declared.Region.{Region}
+use Rattle.image.specs.declared.Checked.{Checked}
+use Rattle.image.specs.declared.Checked.the-variants as checked-is
+use Rattle.image.specs.declared.Found.{Found}
+use Rattle.image.specs.declared.Found.the-variants as found-is
+
+-- the most bytes of a file
+abbrev pub longest : ℕ
+longest = 16777216
+
+-- the most entries of a directory
+abbrev pub most : ℕ
+most = 64
+
+-- the number of addresses
+abbrev pub addresses : ℕ
+addresses = 4294967296
+
+-- the most bytes of a segment
+abbrev pub widest : ℕ
+widest = 1490
+
+-- ---- fields
+-- the number in n bytes of the file from a place on
+abbrev pub word : ℕ → List ℕ → ℕ → ℕ
+word n file at = number (take n (drop at file))
+
+-- directory offset 4, entry count 2, zero 2, transfer address 4, file length 4
+unfoldable pub trailerAt : List ℕ → ℕ → Trailer
+trailerAt file at =
+    record {
+      directory = word 4 file at;
+      count = word 2 file (at + 4);
+      zero = word 2 file (at + 6);
+      transfer = word 4 file (at + 8);
+      length = word 4 file (at + 12)
+    }
+
+-- the trailer is the file's last 16 bytes
+abbrev pub trailer : List ℕ → Trailer
+trailer file = trailerAt file (length file - 16)
+
+-- a directory entry of 12 bytes: memory address 4, offset of its bytes in the file 4, length 4
+unfoldable pub entryAt : List ℕ → ℕ → Region
+entryAt file at =
+    record { address = word 4 file at; place = word 4 file (at + 4); length = word 4 file (at + 8) }
+
+-- n entries from a place on
+unfoldable pub entries : List ℕ → ℕ → ℕ → List Region
+entries file at zero = []
+entries file at (suc n) = entryAt file at ∷ entries file (at + 12) n
+
+-- the regions, in directory order
+abbrev pub regions : List ℕ → List Region
+regions file = entries file (trailer file .directory) (trailer file .count)
+
+-- the address just past a region
+abbrev pub ending : Region → ℕ
+ending r = r .address + r .length
+
+-- a region's bytes
+abbrev pub bytes : List ℕ → Region → List ℕ
+bytes file r = take (r .length) (drop (r .place) file)
+
+-- no region, where there is none
+abbrev pub nowhere : Region
+nowhere = record { address = 0; place = 0; length = 0 }
+
+-- ---- refusals, by paper 01's numbers; 0 is none
+-- the refusal if something does not hold, else what is asked next
+unfoldable pub demand : Bool → ℕ → ℕ → ℕ
+demand true n next = next
+demand false n next = n
+
+-- the first of two refusals
+abbrev pub first : ℕ → ℕ → ℕ
+first n next = demand (eqb n 0) n next
+
+-- 5 and 6, of a file of n bytes with this trailer
+abbrev pub trailerRefusal : ℕ → Trailer → ℕ
+trailerRefusal n t =
+    demand (leb 16 n) 5
+    (demand (leb n longest) 5
+    (demand (eqb (t .length) n) 5
+    (demand (eqb (t .zero) 0) 5
+    (demand (leb 1 (t .count)) 6
+    (demand (leb (t .count) most) 6
+    (demand (eqb (t .directory + 12 * t .count + 16) n) 6 0))))))
+
+-- 7 and 8, of an entry, with the directory's start and the end of the region before
+abbrev pub entryRefusal : ℕ → ℕ → Region → ℕ
+entryRefusal directory end r =
+    demand (leb 1 (r .length)) 7
+    (demand (leb (r .place + r .length) directory) 7
+    (demand (leb (ending r) addresses) 7
+    (demand (leb end (r .address)) 8 0)))
+
+-- of the entries in turn
+unfoldable pub entriesRefusal : ℕ → ℕ → List Region → ℕ
+entriesRefusal directory end [] = 0
+entriesRefusal directory end (r ∷ rs) = first (entryRefusal directory end r) (entriesRefusal directory (ending r) rs)
+
+-- of a file; before its first region nothing ends
+abbrev pub refusal : List ℕ → ℕ
+refusal file =
+    first (trailerRefusal (length file) (trailer file)) (entriesRefusal (trailer file .directory) 0 (regions file))
+
+-- of a file to be cut into segments of S bytes: 10 for S comes first
+abbrev pub cutRefusal : List ℕ → ℕ → ℕ
+cutRefusal file S = demand (leb 1 S) 10 (demand (leb S widest) 10 (refusal file))
+
+-- ---- segments of S bytes
+-- the number of a region's parts, the last perhaps shorter
+abbrev pub parts : ℕ → Region → ℕ
+parts S r = (r .length + (S - 1)) / S
+
+-- part j of a region
+abbrev pub cut : ℕ → Region → ℕ → Region
+cut S r j =
+    record {
+      address = r .address + j * S;
+      place = r .place + j * S;
+      length = min S (r .length - j * S)
+    }
+
+-- N, the number of segments
+unfoldable pub many : ℕ → List Region → ℕ
+many S [] = 0
+many S (r ∷ rs) = parts S r + many S rs
+
+-- segment i, counted from 0
+unfoldable pub segment : ℕ → List Region → ℕ → Region
+segment S [] i = nowhere
+segment S (r ∷ rs) i = pick (ltb i (parts S r)) (cut S r i) (segment S rs (i - parts S r))
+
+-- What a segment lays into memory.
+pub record Segment : Type 0 where
+  pub address : ℕ
+  pub bytes : List ℕ
+
+abbrev pub segmentOf : List ℕ → ℕ → ℕ → Segment
+segmentOf file S i =
+    record { address = segment S (regions file) i .address; bytes = bytes file (segment S (regions file) i) }
+
+-- ---- answers
+-- what `check` answers
+abbrev pub checked : List ℕ → ℕ → Checked
+checked file S =
+    pick (eqb (cutRefusal file S) 0)
+    (checked-is.Accepted (trailer file .count) (trailer file .transfer) (many S (regions file)))
+    (checked-is.Refused (cutRefusal file S))
+
+-- segment i of n, as the code tells it: the last is the one before n
+abbrev pub foundAs : ℕ → ℕ → Region → Found
+foundAs n i r = found-is.Segment (r .address) (r .place) (r .length) (eqb (i + 1) n)
+
+-- what `segment` answers: 10 for an index that is not below N comes last
+abbrev pub found : List ℕ → ℕ → ℕ → Found
+found file S i =
+    pick (eqb (cutRefusal file S) 0)
+    (pick (ltb i (many S (regions file)))
+    (foundAs (many S (regions file)) i (segment S (regions file) i))
+    (found-is.Refused 10))
+    (found-is.Refused (cutRefusal file S))

@@ -1,0 +1,29 @@
+use borrow.Author.Needs.{needs}
+use mathlib.Core.List.{append-nil}
+use Rattle.octets.proofs.lay_three.Statement.{statement}
+use Rattle.octets.proofs.lay_three.Tie as tie
+use Rattle.octets.proofs.lay_three.Reads as reads
+use Rattle.octets.proofs.lay_three.Lts as lts
+use Rattle.octets.proofs.lay_four.Reads as lay-four-reads
+
+-- src/lib.rt:122:32
+slice-aggregate-lay-four : tie.Need-slice-aggregate-lay-four
+slice-aggregate-lay-four c = search needs
+
+-- src/lib.rt:122:5
+lay-four-requires : tie.Need-lay-four-requires
+lay-four-requires c κs = search needs
+
+-- src/lib.rt:118:1
+same-length : tie.Need-same-length
+same-length c = search needs
+
+-- src/lib.rt:118:1
+returns : tie.Need-returns
+returns c =
+    let a = c .before .before .before .before .before .before .before .before .before .args in
+    rw (append-nil (a .tail .now)) at (c .before .before .lay-four .ensures)
+
+pub lay-three-spec : {M : Type 1} → statement M
+lay-three-spec =
+    tie.close (tie.spec slice-aggregate-lay-four lay-four-requires same-length returns)

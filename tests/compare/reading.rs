@@ -1,0 +1,447 @@
+//! Compares the readers.
+
+use crate::Compare;
+use crate::make;
+use crate::tally::CODES;
+use mop_plain::frame::{self, Frame};
+
+impl Compare {
+    /// Reads a frame with both implementations and compares every field; an
+    /// accepted one is written again. `wanted` is the answer by the paper,
+    /// where the case's maker knows it: 0, or the refusal.
+    pub fn read(&mut self, kind: &'static str, bytes: &[u8], wanted: Option<u8>) {
+        let plain = frame::read(bytes);
+        let expected = fields(plain, bytes);
+        let seen = mop_proved::read(bytes);
+        self.tally.frame(kind, bytes, expected.refusal);
+        if seen != expected {
+            self.tally
+                .differ(&format!("reader, {kind}"), bytes, seen, expected);
+        }
+        if wanted.is_some_and(|wanted| wanted != expected.refusal) {
+            let what = format!("plain reader against the paper, {kind}");
+            self.tally.differ(&what, bytes, expected.refusal, wanted);
+        }
+        if let Ok(frame) = plain {
+            self.rewrite(&frame, bytes);
+        }
+    }
+
+    pub fn all_readers(&mut self) {
+        self.set_cases();
+        self.first_bytes();
+        self.whole_frames();
+        self.cut_frames();
+        self.software_forms();
+        self.entry_types();
+        self.entry_lengths();
+        self.swallowing_entries();
+        self.times();
+        self.cut_times();
+        self.offsets();
+        self.random_frames();
+        self.random_entries();
+    }
+
+    /// Paper 01's set cases K1 to K5 and K11, and what its text says outright.
+    fn set_cases(&mut self) {
+        const TIME: [u8; 10] = [20, 26, 2, 31, 23, 59, 59, 99, 0, 0];
+        let load = |length| vec![0; length];
+        let unlisted = [&[16][..], &[0; 1999]].concat();
+        let bad_form = [&[8, 0, 1, 2, 17][..], &[0; 1496]].concat();
+        let time = |hours: i8, minutes: i8| {
+            let offset = [hours as u8, minutes as u8];
+            [&[20, 0, 5, 10][..], &TIME[..8], &offset, &[0; 5]].concat()
+        };
+        for (frame, wanted) in [
+            (vec![], 1),
+            (vec![10, 1, 0], 0),
+            (vec![10, 1], 1),
+            (vec![10, 1, 0, 0], 2),
+            (vec![16], 3),
+            (load(10), 0),
+            (load(9), 1),
+            (time(0, -30), 0),
+            (time(1, -30), 4),
+            (time(-1, 30), 4),
+            (time(-12, -59), 0),
+            (time(13, 59), 0),
+            (unlisted, 3),
+            (bad_form, 2),
+            (vec![8, 0, 1, 3, 16, 0], 4),
+            (vec![8, 0, 1, 2, 16, 0], 1),
+            (vec![8, 0, 1, 2, 253, 0], 4),
+            (vec![20, 0, 0, 1, 2, 3, 4], 0),
+            (vec![20, 0, 0, 1, 2, 3, 4, 5], 2),
+            (vec![20, 0, 1, 0, 0, 1, 2, 3], 1),
+            (vec![20, 0, 1, 0, 3, 0, 5], 1),
+            (vec![20, 0, 1, 0, 3, 0, 6], 4),
+        ] {
+            self.read("set cases", &frame, Some(wanted));
+        }
+        if frame::read(&[10, 1, 0])
+            != Ok(Frame::RequestLoad {
+                number: 1,
+                error: 0,
+            })
+        {
+            self.tally
+                .differ("K2", &[10, 1, 0], "other fields", "number 1, error 0");
+        }
+    }
+
+    /// Every first byte at lengths about the bounds.
+    fn first_bytes(&mut self) {
+        for first in 0..=255u8 {
+            let listed = CODES.iter().find(|listed| listed.code == first);
+            let least = listed.map_or(6, |listed| listed.least);
+            for length in [1, 2, least - 1, least, least + 1, 1499, 1500, 1501, 2000] {
+                let mut zeros = vec![0; length];
+                let mut any = self.random.bytes(length);
+                for frame in [&mut zeros, &mut any] {
+                    let Some(byte) = frame.first_mut() else {
+                        continue;
+                    };
+                    *byte = first;
+                    let wanted = if listed.is_none() { Some(3) } else { None };
+                    self.read("every first byte at many lengths", frame, wanted);
+                }
+            }
+        }
+    }
+
+    /// Good frames of every code, damaged by one byte, and extended.
+    fn whole_frames(&mut self) {
+        for _ in 0..4000 {
+            for listed in &CODES {
+                let frame = make::frame(&mut self.random, listed.code);
+                self.read("good", &frame, Some(0));
+                for _ in 0..3 {
+                    let damaged = self.damage(&frame);
+                    self.read("damaged by one byte", &damaged, None);
+                }
+                self.extend(&frame, listed.most);
+            }
+        }
+    }
+
+    fn damage(&mut self, frame: &[u8]) -> Vec<u8> {
+        let mut damaged = frame.to_vec();
+        let near = damaged.len().min(24);
+        let reach = self.random.pick(&[near, near, near, damaged.len()]);
+        let place = self.random.range(0, reach - 1);
+        damaged[place] = self.random.other_than(damaged[place]);
+        damaged
+    }
+
+    fn extend(&mut self, frame: &[u8], most: usize) {
+        let count = self.random.pick(&[1, 1, 2, 4, 5, 500]);
+        let mut extended = frame.to_vec();
+        extended.extend(self.random.bytes(count));
+        let refused = frame[0] == 20 || extended.len() > most;
+        self.read("extended", &extended, Some(if refused { 2 } else { 0 }));
+    }
+
+    /// Good frames, cut at every length.
+    fn cut_frames(&mut self) {
+        for round in 0..40 {
+            for listed in &CODES {
+                let frame = make::frame(&mut self.random, listed.code);
+                if frame.len() > 200 && round >= 8 {
+                    continue;
+                }
+                let needed = needed(&frame, listed.least);
+                for length in 0..=frame.len() {
+                    let wanted = if length < needed { 1 } else { 0 };
+                    self.read("cut at every length", &frame[..length], Some(wanted));
+                }
+            }
+        }
+    }
+
+    /// Every form and program type, the id whole and cut.
+    fn software_forms(&mut self) {
+        for form in 0..=255u8 {
+            let id = if form <= 16 { usize::from(form) } else { 0 };
+            let listed = matches!(form, 0..=16 | 254 | 255);
+            for program in [0, 1, 2, 3] {
+                for length in 6..=25 {
+                    let mut frame = self.random.bytes(length);
+                    (frame[0], frame[3], frame[4]) = (8, program, form);
+                    let wanted = match program <= 2 && listed {
+                        false => 4,
+                        true if length < 6 + id => 1,
+                        true => 0,
+                    };
+                    self.read("every software form", &frame, Some(wanted));
+                }
+            }
+        }
+        for program in 0..=255u8 {
+            let frame = [8, 0, 1, program, 0, 0];
+            let wanted = if program <= 2 { 0 } else { 4 };
+            self.read("every program type", &frame, Some(wanted));
+        }
+    }
+
+    /// Every entry type, with lengths about the bounds, first or behind
+    /// another entry, whole or cut behind the type or the length.
+    fn entry_types(&mut self) {
+        for kind in 0..=255u8 {
+            for length in [0, 1, 5, 6, 7, 9, 10, 11, 15, 16, 17, 255] {
+                let time = make::time(&mut self.random);
+                let value = if kind == 5 && length == 10 {
+                    time.to_vec()
+                } else {
+                    self.random.bytes(length)
+                };
+                let entry = make::with_head(kind, value);
+                let wanted = match kind {
+                    0 => None,
+                    _ if entry_fits(kind, length) => Some(0),
+                    _ => Some(4),
+                };
+                let before = make::entry(&mut self.random);
+                for entries in [entry.clone(), [before, entry.clone()].concat()] {
+                    let frame = make::parameters(&mut self.random, &entries);
+                    self.read("every entry type", &frame, wanted);
+                }
+                self.entry_cut(&entry);
+            }
+        }
+    }
+
+    /// A frame that ends behind an entry's type, and behind its length.
+    fn entry_cut(&mut self, entry: &[u8]) {
+        let (kind, length) = (entry[0], usize::from(entry[1]));
+        let before = make::with_head(3, self.random.bytes(9));
+        let start = [&[20, 0][..], &before].concat();
+        let known = matches!(kind, 0..=5);
+        let fits = kind == 0 || entry_fits(kind, length);
+        for (part, good) in [(&entry[..1], known), (&entry[..2], fits)] {
+            let wanted = if good { 1 } else { 4 };
+            let frame = [&start, part].concat();
+            self.read(
+                "ends behind an entry's type or length",
+                &frame,
+                Some(wanted),
+            );
+        }
+    }
+
+    /// Every length byte of every listed type.
+    fn entry_lengths(&mut self) {
+        for kind in 1..=5u8 {
+            for length in 0..=255usize {
+                let value = match (kind, length) {
+                    (5, 10) => make::time(&mut self.random).to_vec(),
+                    _ => self.random.bytes(length),
+                };
+                let entries = make::with_head(kind, value);
+                let frame = make::parameters(&mut self.random, &entries);
+                let wanted = if entry_fits(kind, length) { 0 } else { 4 };
+                self.read("every entry length", &frame, Some(wanted));
+            }
+        }
+    }
+
+    /// Entries that take the end mark and transfer address for their value:
+    /// the walk runs out.
+    fn swallowing_entries(&mut self) {
+        for kind in [1, 2, 3, 4] {
+            for length in 1..=if kind % 2 == 1 { 16 } else { 6 } {
+                for present in 0..length {
+                    let mut frame = vec![20, 0, 1, 3, 7, 7, 7, kind, length as u8];
+                    frame.extend(self.random.bytes(present));
+                    self.read("entries that swallow the end", &frame, Some(1));
+                    frame.extend(self.random.bytes(length - present));
+                    self.read("entries that swallow the end", &frame, Some(1));
+                }
+            }
+        }
+    }
+
+    /// Every value of each time field, the others good.
+    fn times(&mut self) {
+        for field in 0..8 {
+            let (least, most) = make::TIME_BOUNDS[field];
+            for value in 0..=255u8 {
+                for _ in 0..2 {
+                    let mut time = make::time(&mut self.random);
+                    time[field] = value;
+                    let good = least <= value && value <= most;
+                    self.time("every value of each time field", &time, good);
+                }
+            }
+        }
+    }
+
+    /// Every pair of offset hours and minutes.
+    fn offsets(&mut self) {
+        let mut time = make::time(&mut self.random);
+        for hours in -128..=127i8 {
+            for minutes in -128..=127i8 {
+                (time[8], time[9]) = (hours as u8, minutes as u8);
+                let good = make::offset_is_good(hours, minutes);
+                self.time("every pair of offset hours and minutes", &time, good);
+            }
+        }
+    }
+
+    fn time(&mut self, kind: &'static str, time: &[u8; 10], good: bool) {
+        let entries = make::with_head(5, time.to_vec());
+        let frame = make::parameters(&mut self.random, &entries);
+        self.read(kind, &frame, Some(if good { 0 } else { 4 }));
+    }
+
+    /// Times that end early, with one field bad or none: a bad field that is
+    /// there is found before the end.
+    fn cut_times(&mut self) {
+        const BAD: [u8; 10] = [128, 101, 13, 0, 24, 60, 60, 100, 14, 60];
+        for bad in 0..=10 {
+            for present in 0..=10 {
+                let mut time = make::time(&mut self.random);
+                if bad < 10 {
+                    time[bad] = BAD[bad];
+                }
+                let start = [20, 0, 3, 2, 65, 66, 5, 10];
+                let frame = [&start, &time[..present]].concat();
+                let wanted = if bad < present { 4 } else { 1 };
+                self.read("times cut short", &frame, Some(wanted));
+            }
+        }
+    }
+
+    /// Random bytes, mostly behind a listed code.
+    fn random_frames(&mut self) {
+        for _ in 0..100_000 {
+            let length = match self.random.below(50) {
+                0 => self.random.range(1400, 2100),
+                1..=10 => self.random.range(0, 300),
+                _ => self.random.range(0, 24),
+            };
+            let mut frame = self.random.bytes(length);
+            let code = CODES[self.random.range(0, CODES.len() - 1)].code;
+            if let Some(first) = frame.first_mut().filter(|first| **first >= 16) {
+                *first = code;
+            }
+            self.read("random bytes", &frame, None);
+        }
+    }
+
+    /// Code 20 with bytes that often make entries, to walk far.
+    fn random_entries(&mut self) {
+        for _ in 0..100_000 {
+            let length = self.random.range(0, 60);
+            let mut frame = vec![20, self.random.u8()];
+            for _ in 0..length {
+                let any = self.random.u8();
+                let small = any % 8;
+                let byte = self.random.pick(&[0, 1, 2, 3, 4, small, 16, 17, any]);
+                frame.push(byte);
+            }
+            self.read("random bytes that make entries", &frame, None);
+        }
+    }
+}
+
+/// How many bytes of a good frame are enough to be read.
+fn needed(frame: &[u8], least: usize) -> usize {
+    match frame[0] {
+        8 if frame[4] <= 16 => 6 + usize::from(frame[4]),
+        20 => frame.len(),
+        _ => least,
+    }
+}
+
+fn entry_fits(kind: u8, length: usize) -> bool {
+    match kind {
+        1 | 3 => length <= 16,
+        2 | 4 => length <= 6,
+        5 => length == 10,
+        _ => false,
+    }
+}
+
+/// A plain reader's answer in the shape of mop.h.
+fn fields(answer: Result<Frame, u8>, bytes: &[u8]) -> mop_proved::Frame {
+    let mut c = mop_proved::Frame::default();
+    let frame = match answer {
+        Ok(frame) => frame,
+        Err(refusal) => {
+            c.refusal = refusal;
+            return c;
+        }
+    };
+    c.code = frame.code();
+    match frame {
+        Frame::DumpComplete | Frame::Volunteer => {}
+        Frame::LoadTransfer {
+            number,
+            address,
+            data,
+            transfer,
+        } => {
+            (c.number, c.address, c.transfer) = (number, address, transfer);
+            (c.data_at, c.data_length) = place(data, bytes);
+        }
+        Frame::Load {
+            number,
+            address,
+            data,
+        } => {
+            (c.number, c.address) = (number, address);
+            (c.data_at, c.data_length) = place(data, bytes);
+        }
+        Frame::RequestDump { address, count } => (c.address, c.count) = (address, count),
+        Frame::RequestProgram {
+            device,
+            format,
+            program,
+            form,
+            id,
+            processor,
+            info,
+        } => {
+            (c.device, c.format, c.program) = (device, format, program);
+            (c.form, c.processor) = (form, processor);
+            (c.id_at, c.id_length) = place(id, bytes);
+            (c.data_at, c.data_length) = place(info, bytes);
+        }
+        Frame::RequestLoad { number, error } => (c.number, c.error) = (number, error),
+        Frame::RequestDumpService {
+            device,
+            format,
+            memory_size,
+            compatibility,
+            info,
+        } => {
+            (c.device, c.format) = (device, format);
+            (c.memory_size, c.compatibility) = (memory_size, compatibility);
+            (c.data_at, c.data_length) = place(info, bytes);
+        }
+        Frame::DumpData { address, data } => {
+            c.address = address;
+            (c.data_at, c.data_length) = place(data, bytes);
+        }
+        Frame::Parameters {
+            number,
+            entries,
+            transfer,
+        } => {
+            (c.number, c.transfer) = (number, transfer);
+            (c.data_at, c.data_length) = place(entries, bytes);
+        }
+        Frame::Loop { receipt, data } | Frame::Looped { receipt, data } => {
+            c.receipt = receipt;
+            (c.data_at, c.data_length) = place(data, bytes);
+        }
+    }
+    c
+}
+
+/// Where a part stands in the whole that it was borrowed from, and its length.
+pub fn place(part: &[u8], whole: &[u8]) -> (u64, u64) {
+    let at = part.as_ptr().addr() - whole.as_ptr().addr();
+    (at as u64, part.len() as u64)
+}

@@ -1,0 +1,234 @@
+//! What was seen: cases of each kind, refusals, differences.
+
+use std::collections::BTreeMap;
+use std::fmt::Debug;
+
+/// How often each refusal came; at 0, how often none did.
+pub type Refusals = [u64; 11];
+
+/// A listed code, its frames' lengths, and every answer that its reader and
+/// its writer can give.
+pub struct Code {
+    pub code: u8,
+    pub least: usize,
+    pub most: usize,
+    reader: &'static [u8],
+    writer: &'static [u8],
+}
+
+const fn open(code: u8, least: usize) -> Code {
+    Code {
+        code,
+        least,
+        most: 1500,
+        reader: &[0, 1, 2],
+        writer: &[0, 2, 9],
+    }
+}
+
+/// A code with lists to break.
+const fn strict(code: u8, least: usize) -> Code {
+    Code {
+        reader: &[0, 1, 2, 4],
+        writer: &[0, 2, 4, 9],
+        ..open(code, least)
+    }
+}
+
+/// A code whose frames have one length only.
+const fn exact(code: u8, length: usize) -> Code {
+    Code {
+        code,
+        least: length,
+        most: length,
+        reader: if length == 1 { &[0, 2] } else { &[0, 1, 2] },
+        writer: &[0, 9],
+    }
+}
+
+/// The listed codes (paper 01, "Messages").
+pub const CODES: [Code; 12] = [
+    open(0, 10),
+    exact(1, 1),
+    open(2, 6),
+    exact(3, 1),
+    exact(4, 7),
+    strict(8, 6),
+    exact(10, 3),
+    open(12, 8),
+    open(14, 5),
+    strict(20, 7),
+    open(24, 3),
+    open(26, 3),
+];
+
+/// The answers for a frame that is empty or whose code is not listed.
+const UNLISTED: &[u8] = &[1, 3];
+/// The answers of the image check and of the segment call.
+const IMAGE: &[u8] = &[0, 5, 6, 7, 8, 10];
+
+/// Differences that are printed in full.
+const SHOWN: u64 = 5;
+
+#[derive(Default)]
+pub struct Tally {
+    pub frames: u64,
+    pub images: u64,
+    pub differences: u64,
+    kinds: BTreeMap<(&'static str, &'static str), u64>,
+    reader: BTreeMap<u8, Refusals>,
+    unlisted: Refusals,
+    writer: BTreeMap<u8, Refusals>,
+    check: Refusals,
+    segment: Refusals,
+}
+
+impl Tally {
+    pub fn frame(&mut self, kind: &'static str, frame: &[u8], refusal: u8) {
+        self.frames += 1;
+        self.kind("frames", kind);
+        let listed = frame.first().filter(|&&code| is_listed(code));
+        let row = match listed {
+            Some(&code) => self.reader.entry(code).or_default(),
+            None => &mut self.unlisted,
+        };
+        row[usize::from(refusal)] += 1;
+    }
+
+    pub fn write(&mut self, kind: &'static str, code: u8, refusal: u8) {
+        self.kind("writer calls", kind);
+        self.writer.entry(code).or_default()[usize::from(refusal)] += 1;
+    }
+
+    pub fn image(&mut self, kind: &'static str) {
+        self.images += 1;
+        self.kind("image files", kind);
+    }
+
+    pub fn check(&mut self, refusal: u8) {
+        self.check[usize::from(refusal)] += 1;
+    }
+
+    pub fn segment(&mut self, refusal: u8) {
+        self.segment[usize::from(refusal)] += 1;
+    }
+
+    /// Reports a difference, with the input that showed it.
+    pub fn differ(&mut self, what: &str, input: &[u8], seen: impl Debug, wanted: impl Debug) {
+        self.differences += 1;
+        if self.differences <= SHOWN {
+            println!("DIFFERENCE: {what}");
+            println!("  input  {}", hexadecimal(input));
+            println!("  seen   {seen:02X?}");
+            println!("  wanted {wanted:02X?}");
+        }
+    }
+
+    pub fn print(&self) {
+        let mut heading = "";
+        for (&(group, kind), &count) in &self.kinds {
+            if group != heading {
+                heading = group;
+                println!("  {heading}");
+            }
+            println!("    {kind:<44}{:>12}", commas(count));
+        }
+        println!("  answers: 0 accepted, or the refusal");
+        for (name, row, _) in self.rows() {
+            println!("    {name:<16}{}", seen(&row));
+        }
+        for (name, row) in self.sums() {
+            println!("    {name:<16}{}", seen(&row));
+        }
+    }
+
+    /// Answers that can occur and never did, or the reverse.
+    pub fn gaps(&self) -> Vec<String> {
+        let mut gaps = Vec::new();
+        for (name, row, possible) in self.rows() {
+            for (answer, &count) in row.iter().enumerate() {
+                if possible.contains(&(answer as u8)) != (count > 0) {
+                    gaps.push(format!("{name}: answer {answer} came {count} times"));
+                }
+            }
+        }
+        gaps
+    }
+
+    fn kind(&mut self, group: &'static str, kind: &'static str) {
+        *self.kinds.entry((group, kind)).or_default() += 1;
+    }
+
+    /// Every place that answers: its name, what it answered, what it can.
+    fn rows(&self) -> Vec<(String, Refusals, &'static [u8])> {
+        let row = |table: &BTreeMap<u8, Refusals>, code| table.get(&code).copied();
+        let mut rows = Vec::new();
+        for code in &CODES {
+            let seen = row(&self.reader, code.code).unwrap_or_default();
+            rows.push((format!("reader code {}", code.code), seen, code.reader));
+        }
+        rows.push(("reader others".to_string(), self.unlisted, UNLISTED));
+        for code in &CODES {
+            let seen = row(&self.writer, code.code).unwrap_or_default();
+            rows.push((format!("writer code {}", code.code), seen, code.writer));
+        }
+        rows.push(("image check".to_string(), self.check, IMAGE));
+        rows.push(("image segment".to_string(), self.segment, IMAGE));
+        rows
+    }
+
+    fn sums(&self) -> [(&'static str, Refusals); 3] {
+        let readers = self.reader.values().chain([&self.unlisted]);
+        [
+            ("all readers", sum(readers)),
+            ("all writers", sum(self.writer.values())),
+            ("image, both", sum([&self.check, &self.segment])),
+        ]
+    }
+}
+
+fn is_listed(code: u8) -> bool {
+    CODES.iter().any(|listed| listed.code == code)
+}
+
+fn sum<'a>(rows: impl IntoIterator<Item = &'a Refusals>) -> Refusals {
+    let mut total = Refusals::default();
+    for row in rows {
+        for (total, count) in total.iter_mut().zip(row) {
+            *total += count;
+        }
+    }
+    total
+}
+
+/// The answers that came, with their numbers of times.
+fn seen(row: &Refusals) -> String {
+    let came = row.iter().enumerate().filter(|&(_, &count)| count > 0);
+    came.map(|(answer, &count)| format!("{:>4}:{:>10}", answer, commas(count)))
+        .collect()
+}
+
+/// A long input is shown by its two ends.
+fn hexadecimal(bytes: &[u8]) -> String {
+    const END: usize = 2048;
+    let digits = |bytes: &[u8]| -> String { bytes.iter().map(|b| format!("{b:02X}")).collect() };
+    if bytes.len() <= 2 * END {
+        return digits(bytes);
+    }
+    let (first, last) = (&bytes[..END], &bytes[bytes.len() - END..]);
+    let between = bytes.len() - 2 * END;
+    format!("{} ({between} bytes) {}", digits(first), digits(last))
+}
+
+/// A number with a comma at every third digit.
+pub fn commas(number: u64) -> String {
+    let digits = number.to_string();
+    let mut text = String::new();
+    for (place, digit) in digits.chars().enumerate() {
+        if place > 0 && (digits.len() - place).is_multiple_of(3) {
+            text.push(',');
+        }
+        text.push(digit);
+    }
+    text
+}

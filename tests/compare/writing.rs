@@ -1,0 +1,410 @@
+//! Compares the writers.
+
+use crate::make;
+use crate::{Compare, Wanted};
+use mop_plain::frame::{self, Frame};
+use mop_proved::Written;
+
+/// Bytes kept before and behind an output buffer, to see that they stay.
+const MARGIN: usize = 24;
+
+impl Compare {
+    /// An accepted frame's fields, written again: into a buffer of exactly
+    /// its length, one byte short, and longer.
+    pub fn rewrite(&mut self, frame: &Frame, bytes: &[u8]) {
+        let exact = bytes.len();
+        let more = exact + self.random.range(1, 60);
+        self.write("again, exact buffer", frame, exact, Wanted::Bytes(bytes));
+        self.write(
+            "again, one byte short",
+            frame,
+            exact - 1,
+            Wanted::Refusal(9),
+        );
+        self.write("again, longer buffer", frame, more, Wanted::Bytes(bytes));
+    }
+
+    /// Writes a frame with both implementations into a buffer of `room`
+    /// bytes, and compares the answers and everything in and around it.
+    pub fn write(&mut self, kind: &'static str, frame: &Frame, room: usize, wanted: Wanted) {
+        let before = self.random.bytes(MARGIN + room + MARGIN);
+        let mut plain = before.clone();
+        let mut proved = before.clone();
+        let answer = frame.write(&mut plain[MARGIN..MARGIN + room]);
+        let seen = write_proved(frame, &mut proved[MARGIN..MARGIN + room]);
+        self.tally
+            .write(kind, frame.code(), answer.err().unwrap_or(0));
+
+        let expected = written(answer);
+        if seen != expected {
+            self.differ_in_writer(kind, frame, &before, seen, expected);
+        }
+        if proved != plain {
+            self.differ_in_writer(kind, frame, &before, &proved, &plain);
+        }
+        let right = wanted_buffer(frame, answer, wanted, &before, &plain);
+        if let Err(wanted) = right {
+            self.differ_in_writer(kind, frame, &before, (answer, &plain), wanted);
+        }
+    }
+
+    fn differ_in_writer(
+        &mut self,
+        kind: &str,
+        frame: &Frame,
+        before: &[u8],
+        seen: impl std::fmt::Debug,
+        wanted: impl std::fmt::Debug,
+    ) {
+        let room = before.len() - 2 * MARGIN;
+        let what = format!(
+            "writer, {kind}, buffer of {room} bytes with {MARGIN} around, {frame:02X?}; \
+             the input is what was in the buffer"
+        );
+        self.tally.differ(&what, before, seen, wanted);
+    }
+
+    /// Writers given arguments of all sorts.
+    pub fn all_writers(&mut self) {
+        self.any_arguments();
+        self.long_arguments();
+        self.software_ids();
+        self.entry_strings();
+        self.long_entry_strings();
+    }
+
+    fn any_arguments(&mut self) {
+        for _ in 0..3000 {
+            for code in [0, 1, 2, 3, 4, 8, 10, 12, 14, 20, 24, 26] {
+                let data = self.any_data();
+                let data = if code == 20 && self.random.once_in(2) {
+                    make::entries(&mut self.random, 200).concat()
+                } else {
+                    data
+                };
+                let id = self.any_id();
+                let frame = self.any_fields(code, &id, &data);
+                let room = self.any_room(frame.length());
+                self.write("any arguments", &frame, room, Wanted::Agreement);
+            }
+        }
+    }
+
+    fn any_data(&mut self) -> Vec<u8> {
+        let length = match self.random.below(4) {
+            0 => self.random.range(1480, 1510),
+            1 => self.random.range(0, 3000),
+            _ => self.random.range(0, 40),
+        };
+        self.random.bytes(length)
+    }
+
+    fn any_id(&mut self) -> Vec<u8> {
+        let length = self.random.range(0, 18);
+        self.random.bytes(length)
+    }
+
+    fn any_room(&mut self, length: usize) -> usize {
+        let any = self.random.range(0, 2000);
+        self.random.pick(&[
+            length,
+            length,
+            length + 1,
+            length.saturating_sub(1),
+            0,
+            1500,
+            any,
+        ])
+    }
+
+    /// A frame of this code with these strings and any numbers.
+    fn any_fields<'a>(&mut self, code: u8, id: &'a [u8], data: &'a [u8]) -> Frame<'a> {
+        let random = &mut self.random;
+        let number = random.u8();
+        let address = random.u32();
+        let transfer = random.u32();
+        let receipt = random.u16();
+        let device = random.u8();
+        let format = random.u8();
+        match code {
+            0 => Frame::LoadTransfer {
+                number,
+                address,
+                data,
+                transfer,
+            },
+            1 => Frame::DumpComplete,
+            2 => Frame::Load {
+                number,
+                address,
+                data,
+            },
+            3 => Frame::Volunteer,
+            4 => Frame::RequestDump {
+                address,
+                count: receipt,
+            },
+            8 => Frame::RequestProgram {
+                device,
+                format,
+                program: random.pick(&[0, 1, 2, 2, number]),
+                form: random.pick(&[0, id.len() as u8, id.len() as u8, 255, number]),
+                id,
+                processor: random.u8(),
+                info: data,
+            },
+            10 => Frame::RequestLoad {
+                number,
+                error: device,
+            },
+            12 => Frame::RequestDumpService {
+                device,
+                format,
+                memory_size: transfer,
+                compatibility: number,
+                info: data,
+            },
+            14 => Frame::DumpData { address, data },
+            20 => Frame::Parameters {
+                number,
+                entries: data,
+                transfer,
+            },
+            24 => Frame::Loop { receipt, data },
+            _ => Frame::Looped { receipt, data },
+        }
+    }
+
+    /// Frames about and far above 1,500 bytes: 2 comes before 9.
+    fn long_arguments(&mut self) {
+        for code in [0, 2, 8, 12, 14, 24, 26] {
+            for length in [1498, 1499, 1500, 1501, 1502, 1756, 2000, 65_536, 67_036] {
+                let overhead = self.any_fields(code, &[], &[]).length();
+                let data = self.random.bytes(length - overhead);
+                let mut frame = self.any_fields(code, &[], &data);
+                if let Frame::RequestProgram { program, form, .. } = &mut frame {
+                    (*program, *form) = (2, 255);
+                }
+                for room in [0, 1, 1499, 1500, 1501, length - 1, length, length + 1] {
+                    let wanted = wanted(true, length, room);
+                    self.write("about and above 1,500 bytes", &frame, room, wanted);
+                }
+            }
+        }
+    }
+
+    /// Every form with ids that fit it and that do not, every program type.
+    fn software_ids(&mut self) {
+        for form in 0..=255u8 {
+            let fits = if form <= 16 { usize::from(form) } else { 0 };
+            for id_length in [0, 1, 15, 16, 17, fits, fits + 1, 256 + fits, form.into()] {
+                for program in [0, 2, 3, 255] {
+                    self.software_id(form, id_length, program);
+                }
+            }
+        }
+        for program in 0..=255 {
+            self.software_id(1, 1, program);
+        }
+    }
+
+    fn software_id(&mut self, form: u8, id_length: usize, program: u8) {
+        let listed = matches!(form, 0..=16 | 254 | 255);
+        let fits = if form <= 16 { usize::from(form) } else { 0 };
+        let good = listed && id_length == fits && program <= 2;
+        let id = self.random.bytes(id_length);
+        let to_the_end = 1494usize.saturating_sub(id_length);
+        for info_length in [0, 3, to_the_end, to_the_end + 1] {
+            let info = self.random.bytes(info_length);
+            let frame = Frame::RequestProgram {
+                device: self.random.u8(),
+                format: self.random.u8(),
+                program,
+                form,
+                id: &id,
+                processor: self.random.u8(),
+                info: &info,
+            };
+            let length = 6 + id_length + info_length;
+            for room in [0, length - 1, length] {
+                self.write("software ids", &frame, room, wanted(good, length, room));
+            }
+        }
+    }
+
+    /// Entry strings: good ones, with an end mark or a bad byte put in, cut.
+    fn entry_strings(&mut self) {
+        for _ in 0..400 {
+            let entries = make::entries(&mut self.random, 60);
+            self.entry_string("entries", &entries.concat(), true);
+            let place = self.random.range(0, entries.len());
+            for kind in [0, 6, 255] {
+                let mut spoilt = entries.clone();
+                spoilt.insert(place, vec![kind]);
+                self.entry_string(
+                    "entries with an end mark or bad type",
+                    &spoilt.concat(),
+                    false,
+                );
+            }
+            self.cut_entries(&entries);
+        }
+    }
+
+    fn cut_entries(&mut self, entries: &[Vec<u8>]) {
+        let whole = entries.concat();
+        let mut ends = vec![0];
+        for entry in entries {
+            ends.push(ends[ends.len() - 1] + entry.len());
+        }
+        for length in 0..=whole.len() {
+            self.entry_string(
+                "entries cut short",
+                &whole[..length],
+                ends.contains(&length),
+            );
+        }
+    }
+
+    /// Entries that fill a frame to about 1,500 bytes: 4, then 2, then 9.
+    fn long_entry_strings(&mut self) {
+        for filling in 1480..1520 {
+            let mut entries = Vec::new();
+            while entries.len() < filling {
+                let length = (filling - entries.len()).saturating_sub(2).min(16);
+                entries.extend(make::with_head(1, self.random.bytes(length)));
+            }
+            self.entry_string("entries about 1,500 bytes", &entries, true);
+            entries.push(5);
+            self.entry_string("entries about 1,500 bytes", &entries, false);
+        }
+        let many = make::with_head(3, self.random.bytes(16)).repeat(5000);
+        self.entry_string("entries far above 1,500 bytes", &many, true);
+        self.entry_string(
+            "entries far above 1,500 bytes",
+            &many[..many.len() - 1],
+            false,
+        );
+    }
+
+    fn entry_string(&mut self, kind: &'static str, entries: &[u8], good: bool) {
+        let frame = Frame::Parameters {
+            number: self.random.u8(),
+            entries,
+            transfer: self.random.u32(),
+        };
+        let length = 7 + entries.len();
+        for room in [0, length - 1, length, length + 20] {
+            self.write(kind, &frame, room, wanted(good, length, room));
+        }
+    }
+}
+
+/// A writer's answer by the paper: 4, then 2, then 9.
+fn wanted(good: bool, length: usize, room: usize) -> Wanted<'static> {
+    if !good {
+        Wanted::Refusal(4)
+    } else if length > 1500 {
+        Wanted::Refusal(2)
+    } else if room < length {
+        Wanted::Refusal(9)
+    } else {
+        Wanted::Refusal(0)
+    }
+}
+
+/// Checks the plain writer's answer and buffer by themselves: what was wanted,
+/// all else in its place, and the frame read back to its fields.
+fn wanted_buffer(
+    frame: &Frame,
+    answer: Result<usize, u8>,
+    wanted: Wanted,
+    before: &[u8],
+    after: &[u8],
+) -> Result<(), String> {
+    let length = answer.unwrap_or(0);
+    let (start, end) = (MARGIN, MARGIN + length);
+    let bytes = &after[start..end];
+    if before[..start] != after[..start] || before[end..] != after[end..] {
+        return Err("all other bytes stay".to_string());
+    }
+    if answer.is_ok() && frame::read(bytes) != Ok(*frame) {
+        return Err("the frame reads back to its fields".to_string());
+    }
+    let right = match wanted {
+        Wanted::Agreement => true,
+        Wanted::Refusal(refusal) => answer.err().unwrap_or(0) == refusal,
+        Wanted::Bytes(wanted) => answer.is_ok() && bytes == wanted,
+    };
+    if right {
+        Ok(())
+    } else {
+        Err(format!("{wanted:02X?}"))
+    }
+}
+
+fn written(answer: Result<usize, u8>) -> Written {
+    match answer {
+        Ok(length) => Written {
+            length: length as u64,
+            refusal: 0,
+        },
+        Err(refusal) => Written { length: 0, refusal },
+    }
+}
+
+/// The proved writer of the frame's code, given its fields.
+pub fn write_proved(frame: &Frame, out: &mut [u8]) -> Written {
+    match *frame {
+        Frame::LoadTransfer {
+            number,
+            address,
+            data,
+            transfer,
+        } => mop_proved::write_load_transfer(number, address, data, transfer, out),
+        Frame::DumpComplete => mop_proved::write_dump_complete(out),
+        Frame::Load {
+            number,
+            address,
+            data,
+        } => mop_proved::write_load(number, address, data, out),
+        Frame::Volunteer => mop_proved::write_volunteer(out),
+        Frame::RequestDump { address, count } => {
+            mop_proved::write_request_dump(address, count, out)
+        }
+        Frame::RequestProgram {
+            device,
+            format,
+            program,
+            form,
+            id,
+            processor,
+            info,
+        } => mop_proved::write_request_program(
+            device, format, program, form, id, processor, info, out,
+        ),
+        Frame::RequestLoad { number, error } => mop_proved::write_request_load(number, error, out),
+        Frame::RequestDumpService {
+            device,
+            format,
+            memory_size,
+            compatibility,
+            info,
+        } => mop_proved::write_request_dump_service(
+            device,
+            format,
+            memory_size,
+            compatibility,
+            info,
+            out,
+        ),
+        Frame::DumpData { address, data } => mop_proved::write_dump_data(address, data, out),
+        Frame::Parameters {
+            number,
+            entries,
+            transfer,
+        } => mop_proved::write_parameters(number, entries, transfer, out),
+        Frame::Loop { receipt, data } => mop_proved::write_loop(receipt, data, out),
+        Frame::Looped { receipt, data } => mop_proved::write_looped(receipt, data, out),
+    }
+}

@@ -1,0 +1,13 @@
+//! The maintenance operation protocol in plain Rust, written from paper 01
+//! and DEC's document 3.0.0 alone, to compare the proved library with.
+//!
+//! Nothing here allocates: what is read borrows from the bytes that were
+//! given, and a writer fills the buffer that was lent.
+
+#![forbid(unsafe_code)]
+
+mod cursor;
+pub mod entries;
+pub mod frame;
+pub mod image;
+pub mod refusal;

@@ -1,0 +1,27 @@
+//! The numbers of paper 01, "Refused, and by whom".
+
+/// Why something was refused: one of the numbers below.
+pub type Refusal = u8;
+
+/// The frame is empty or ends too early.
+pub const TOO_SHORT: Refusal = 1;
+/// Bytes are left over, or the frame has more than 1,500.
+pub const TOO_LONG: Refusal = 2;
+/// The code is not listed.
+pub const UNKNOWN_CODE: Refusal = 3;
+/// A program type, software form, entry type, entry length or time field is
+/// outside its list.
+pub const OUTSIDE_LIST: Refusal = 4;
+/// The file is under 16 or above 16,777,216 bytes, or its length field or
+/// zero field is wrong.
+pub const BAD_FILE: Refusal = 5;
+/// The entry count or the directory offset is wrong.
+pub const BAD_DIRECTORY: Refusal = 6;
+/// A directory entry breaks its own rule.
+pub const BAD_REGION: Refusal = 7;
+/// A region begins before the end of the one before.
+pub const OUT_OF_ORDER: Refusal = 8;
+/// The output buffer is too short.
+pub const SMALL_BUFFER: Refusal = 9;
+/// A setting is outside its range.
+pub const BAD_SETTING: Refusal = 10;
