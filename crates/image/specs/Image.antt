@@ -31,29 +31,32 @@ abbrev pub widest : ℕ
 widest = 1490
 
 -- ---- fields
--- the number in n bytes of the file from a place on
+-- the number in n bytes of a string from a place on
 abbrev pub word : ℕ → List ℕ → ℕ → ℕ
-word n file at = number (take n (drop at file))
+word n s at = number (take n (drop at s))
 
 -- directory offset 4, entry count 2, zero 2, transfer address 4, file length 4
-unfoldable pub trailerAt : List ℕ → ℕ → Trailer
-trailerAt file at =
+unfoldable pub trailerOf : List ℕ → Trailer
+trailerOf s =
     record {
-      directory = word 4 file at;
-      count = word 2 file (at + 4);
-      zero = word 2 file (at + 6);
-      transfer = word 4 file (at + 8);
-      length = word 4 file (at + 12)
+      directory = word 4 s 0;
+      count = word 2 s 4;
+      zero = word 2 s 6;
+      transfer = word 4 s 8;
+      length = word 4 s 12
     }
 
 -- the trailer is the file's last 16 bytes
 abbrev pub trailer : List ℕ → Trailer
-trailer file = trailerAt file (length file - 16)
+trailer file = trailerOf (drop (length file - 16) file)
 
--- a directory entry of 12 bytes: memory address 4, offset of its bytes in the file 4, length 4
-unfoldable pub entryAt : List ℕ → ℕ → Region
-entryAt file at =
-    record { address = word 4 file at; place = word 4 file (at + 4); length = word 4 file (at + 8) }
+-- a directory entry: memory address 4, offset of its bytes in the file 4, length 4
+unfoldable pub entryOf : List ℕ → Region
+entryOf s = record { address = word 4 s 0; place = word 4 s 4; length = word 4 s 8 }
+
+-- the entry of 12 bytes at a place
+abbrev pub entryAt : List ℕ → ℕ → Region
+entryAt file at = entryOf (take 12 (drop at file))
 
 -- n entries from a place on
 unfoldable pub entries : List ℕ → ℕ → ℕ → List Region

@@ -7,11 +7,11 @@ use native.Mathlib.Nat.{zero-add, add-assoc, add-sub-cancel-left, lt-of-lt-of-le
 use native.Mathlib.Omega.{arith}
 use lib.Dec.{eqb, ltb}
 use lib.ListN.{length, getD, take, drop, length-take, length-drop}
-use lib.Seq.{getD-take, getD-drop}
+use lib.Seq.{getD-take, getD-drop, drop-drop}
 use borrow.Author.Tests.{ltb-true, ltb-false, leb-true, eqb-true, eqb-false, lt-ltb, le-ltb, eq-eqb, ne-eqb}
 use Rattle.octets.specs.Lay.{pick}
 use Rattle.octets.specs.Number.{Octets, number-bound}
-use Rattle.image.specs.Image.{longest, most, addresses, widest, word, trailerAt, trailer, entryAt, entries, regions, ending, bytes, nowhere}
+use Rattle.image.specs.Image.{longest, most, addresses, widest, word, trailerOf, trailer, entryAt, entries, regions, ending, bytes, nowhere}
 use Rattle.image.specs.Image.{demand, first, trailerRefusal, entryRefusal, entriesRefusal, cutRefusal}
 use Rattle.image.specs.Image.{parts, cut, many, segment, segmentOf, checked, foundAs, found}
 use Rattle.image.specs.Parts.{parts-some, parts-bound, part-begins, length-bytes}
@@ -269,5 +269,5 @@ word-bound n at file o =
     (pow-le-pow-right (omega arith) (omega (arith, length-take n (drop at file))))
 
 pub transfer-bound : (file : List ℕ) → Octets file → trailer file .transfer < addresses
-unfolding trailerAt
-transfer-bound file o = word-bound 4 (length file - 16 + 8) file o
+unfolding trailerOf
+transfer-bound file o = rw drop-drop (word-bound 4 (length file - 16 + 8) file o)

@@ -53,23 +53,18 @@ struct Tally {
     segment: Region,
 }
 
-// Where the trailer starts; 0 in a file too short to have one.
-fn trailer_start(length: usize) -> usize
-    ensures { λ r. ⌜ r ≡ length - 16 ⌝ }
-{
-    if length < 16 { 0 } else { length - 16 }
-}
-
 fn read_trailer(file: &[u8]) -> Trailer
+    requires { ⌜ 16 ≤ length (now file) ⌝ }
     ensures { λ r. ⌜ r ≡ trailer (now (file .entry)) ⌝ }
 {
-    let at = trailer_start(file.len());
+    let at = file.len() - 16;
+    let t = &file[at..];
     Trailer {
-        directory: octets::word32(file, at),
-        count: octets::word16(file, at + 4),
-        zero: octets::word16(file, at + 6),
-        transfer: octets::word32(file, at + 8),
-        length: octets::word32(file, at + 12),
+        directory: octets::word32(t, 0),
+        count: octets::word16(t, 4),
+        zero: octets::word16(t, 6),
+        transfer: octets::word32(t, 8),
+        length: octets::word32(t, 12),
     }
 }
 
@@ -77,22 +72,22 @@ fn read_entry(file: &[u8], at: usize) -> Region
     requires { ⌜ at + 12 ≤ length (now file) ⌝ }
     ensures { λ r. ⌜ r ≡ entryAt (now (file .entry)) at ⌝ }
 {
+    let next = at + 12;
+    let e = &file[at..next];
     Region {
-        address: octets::word32(file, at),
-        place: octets::word32(file, at + 4),
-        length: octets::word32(file, at + 8),
+        address: octets::word32(e, 0),
+        place: octets::word32(e, 4),
+        length: octets::word32(e, 8),
     }
 }
 
 // Refusals 5 and 6, or 0: a file of n bytes with this trailer.
 fn trailer_refusal(n: usize, t: Trailer) -> u8
+    requires { ⌜ 16 ≤ n ⌝ }
     ensures { λ r. ⌜ r ≡ trailerRefusal n t ⌝ }
 {
     let length = t.length as usize;
     let total = t.directory as usize + 12 * (t.count as usize) + 16;
-    if n < 16 {
-        return 5; // no room for a trailer
-    }
     if LONGEST < n {
         return 5; // too long
     }
@@ -218,8 +213,7 @@ fn walk(file: &[u8], directory: u32, count: u16, size: u32, index: u64) -> Tally
 }
 
 // The refusal of a segment size or a file, or 0 with the number of segments and the segment of an index.
-fn survey(file: &[u8], t: Trailer, size: u32, index: u64) -> Tally
-    requires { ⌜ t ≡ trailer (now file) ⌝ }
+fn survey(file: &[u8], size: u32, index: u64) -> Tally
     ensures { λ a. ⌜ Tallied (cutRefusal (now (file .entry)) size) size index (regions (now (file .entry))) a ⌝ }
 {
     if size < 1 {
@@ -228,6 +222,10 @@ fn survey(file: &[u8], t: Trailer, size: u32, index: u64) -> Tally
     if WIDEST < size {
         return refused(10);
     }
+    if file.len() < 16 {
+        return refused(5);
+    }
+    let t = read_trailer(file);
     let wrong = trailer_refusal(file.len(), t);
     if wrong != 0 {
         return refused(wrong);
@@ -239,11 +237,11 @@ fn survey(file: &[u8], t: Trailer, size: u32, index: u64) -> Tally
 pub fn check(file: &[u8], size: u32) -> Checked
     ensures { λ r. ⌜ r ≡ checked (now (file .entry)) size ⌝ }
 {
-    let t = read_trailer(file);
-    let a = survey(file, t, size, 0);
+    let a = survey(file, size, 0);
     if a.refusal != 0 {
         return Checked::Refused(a.refusal);
     }
+    let t = read_trailer(file);
     Checked::Accepted { count: t.count, transfer: t.transfer, many: a.many }
 }
 
@@ -251,7 +249,7 @@ pub fn check(file: &[u8], size: u32) -> Checked
 pub fn segment(file: &[u8], size: u32, index: u64) -> Found
     ensures { λ r. ⌜ r ≡ found (now (file .entry)) size index ⌝ }
 {
-    let a = survey(file, read_trailer(file), size, index);
+    let a = survey(file, size, index);
     if a.refusal != 0 {
         return Found::Refused(a.refusal);
     }

@@ -335,3 +335,9 @@ unfolding write
 write-back s m o e out h =
     let b = written-read s o m e in
     rw (b .1, b .0, le-ltb 1500 (length s) (read-short s m e), le-ltb (length out) (length s) h) (refl, refl)
+
+-- a listed message's frame, laid into a buffer, is what its writer gives
+pub wrote : (m : Message) (out f : List ℕ) {answer : Written} {buffer : List ℕ} → Came (laid f out) answer buffer → f ≡ layout m → listed m ≡ true
+    → Came (write m out) answer buffer
+unfolding write
+wrote m out f c e l = rw (l, ← e) c

@@ -4,8 +4,9 @@ ghost use Prim.Native.Nat.{_≤_};
 ghost use lib.ListN.{length};
 ghost use mathlib.Core.Bool.{cond};
 ghost use Rattle.message.specs.Message.{least, exact};
-ghost use Rattle.message.specs.Read.{read, fields, memoryLoadTransferFields, memoryLoadFields, requestProgramFields, withId, requestLoadFields, requestDumpFields, requestDumpServiceFields, dumpDataFields, parametersFields, loopDataFields, loopedDataFields};
+ghost use Rattle.message.specs.Read.{read, fields, memoryLoadTransferFields, memoryLoadFields, requestProgramFields, withId, requestLoadFields, requestDumpFields, requestDumpServiceFields, dumpDataFields, ended, parametersFields, loopDataFields, loopedDataFields};
 ghost use Rattle.reader.specs.Answer.{Reads, row};
+use entries::Place;
 
 // A frame as read: its numbers, and the places of its variable parts. `end` is the place behind a part.
 pub enum Frame {
@@ -195,6 +196,7 @@ fn fields(code: u8, s: &[u8]) -> Frame
         14 => dump_data(s),
         1 => Frame::DumpComplete,
         3 => Frame::Volunteer,
+        20 => parameters(s),
         24 => loop_data(s),
         26 => looped_data(s),
         _ => Frame::Refused(3),
@@ -298,6 +300,36 @@ fn dump_data(s: &[u8]) -> Frame
 {
     Frame::DumpData {
         address: octets::word32(s, 1),
+    }
+}
+
+fn parameters(s: &[u8]) -> Frame
+    requires { ⌜ 7 ≤ length (now s) ⌝ }
+    ensures { λ r. ⌜ Reads (now (s .entry)) (parametersFields (now (s .entry))) r ⌝ }
+{
+    let refusal = ended(entries::walk(s, 2));
+    if refusal != 0 {
+        return Frame::Refused(refusal);
+    }
+    Frame::Parameters {
+        number: s[1],
+        end: s.len() - 5,
+        transfer: octets::word32(s, s.len() - 4),
+    }
+}
+
+// What the place means at which the walk ended; 0 is no refusal.
+fn ended(p: Place) -> u8
+    ensures { λ r. ⌜ r ≡ ended p ⌝ }
+{
+    match p {
+        Place::Kind => 1,
+        Place::Size(_) => 1,
+        Place::Value(_) => 1,
+        Place::Time(_, _) => 1,
+        Place::Transfer(n) => if n == 0 { 0 } else { 1 },
+        Place::Outside => 4,
+        Place::Excess => 2,
     }
 }
 

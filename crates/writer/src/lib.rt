@@ -3,7 +3,8 @@
 ghost use mathlib.Core.Path.{_≡_};
 ghost use Rattle.octets.specs.Lay.{Came};
 ghost use Rattle.message.specs.Message.{memoryLoadTransfer, memoryLoad, requestProgram, requestLoad, requestDump, requestDumpService, dumpData, dumpComplete, volunteer, parameters, loopData, loopedData};
-ghost use Rattle.message.specs.Write.{write, idFits};
+ghost use Rattle.message.specs.Write.{write, idFits, whole};
+use entries::Place;
 use octets::Written;
 
 // Code 0, memory load with transfer.
@@ -126,4 +127,32 @@ fn id_fits(form: u8, n: usize) -> bool
         return false;
     }
     n == 0
+}
+
+// Code 20, parameter load with transfer. The entries come without their end mark.
+pub fn parameters(number: u8, entries: &[u8], transfer: u32, out: &mut [u8]) -> Written
+    ensures { λ r. ⌜ Came (write (parameters number (now (entries .entry)) transfer) (now (out .entry))) r (now (out .exit)) ⌝ }
+{
+    if !whole(entries::walk(entries, 0)) {
+        return Written::Refused(4);
+    }
+    let t = octets::low32(transfer);
+    let head = [20, number];
+    let tail = [0, t[0], t[1], t[2], t[3]];
+    octets::lay_three(&head, entries, &tail, out)
+}
+
+// Entries may end at this place.
+fn whole(p: Place) -> bool
+    ensures { λ r. ⌜ r ≡ whole p ⌝ }
+{
+    match p {
+        Place::Kind => true,
+        Place::Size(_) => false,
+        Place::Value(_) => false,
+        Place::Time(_, _) => false,
+        Place::Transfer(_) => false,
+        Place::Outside => false,
+        Place::Excess => false,
+    }
 }

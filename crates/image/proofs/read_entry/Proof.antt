@@ -1,29 +1,57 @@
--- `image::read_entry` meets its contract: each field is the number that the contract of `octets` gives.
+use Prim.Native.Nat.{ℕ, _+_, _-_}
+use mathlib.Core.Path.{_≡_}
+use native.Mathlib.Omega.{arith}
 use borrow.Author.Needs.{needs}
-use Rattle.image.specs.Image.{entryAt}
+use Rattle.image.specs.Image.{entryOf}
 use Rattle.image.proofs.read_entry.Statement.{statement}
 use Rattle.image.proofs.read_entry.Tie as tie
+use Rattle.image.proofs.read_entry.Reads as reads
+use Rattle.image.proofs.read_entry.Lts as lts
+use Rattle.octets.proofs.word32.Reads as word32-reads
 
+-- src/lib.rt:75:16
+add-next : tie.Need-add-next
+add-next c = search needs
+
+-- src/lib.rt:76:13
+sub-e : tie.Need-sub-e
+sub-e c = search needs
+
+-- src/lib.rt:76:13
+part-e-start : tie.Need-part-e-start
+part-e-start c = search needs
+
+-- src/lib.rt:76:13
+part-e-end : tie.Need-part-e-end
+part-e-end c = search needs
+
+-- src/lib.rt:78:18
 word32-requires : tie.Need-word32-requires
 word32-requires c κs = search needs
 
-add-word32 : tie.Need-add-word32
-add-word32 c = search needs
-
+-- src/lib.rt:79:16
 word32-requires-2 : tie.Need-word32-requires-2
 word32-requires-2 c κs = search needs
 
-add-word32-2 : tie.Need-add-word32-2
-add-word32-2 c = search needs
-
+-- src/lib.rt:80:17
 word32-requires-3 : tie.Need-word32-requires-3
 word32-requires-3 c κs = search needs
 
+-- src/lib.rt:71:1
 returns : tie.Need-returns
-unfolding entryAt
-returns c = simp (c .before .before .word32 .ensures, c .before .word322 .ensures, c .word323 .ensures)
+unfolding entryOf
+returns c = let size : _≡_ {A = ℕ} (c .before .before .before .before .before .args .at + 12 - c .before .before .before .before .before .args .at) 12 = omega arith in
+    simp (c .before .before .word32 .ensures, c .before .word322 .ensures, c .word323 .ensures, size)
 
 pub read-entry-spec : {M : Type 1} → statement M
 read-entry-spec =
     tie.close
-    (tie.spec word32-requires add-word32 word32-requires-2 add-word32-2 word32-requires-3 returns)
+    (tie.spec
+    add-next
+    sub-e
+    part-e-start
+    part-e-end
+    word32-requires
+    word32-requires-2
+    word32-requires-3
+    returns)

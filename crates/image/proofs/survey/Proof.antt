@@ -1,62 +1,94 @@
 -- `image::survey` meets its contract.
-use Prim.Native.Nat.{ℕ, _≤_}
-use mathlib.Core.Path.{_≡_, sym, ap, _∙_}
+use Prim.Native.Nat.{ℕ, _≤_, _<_}
+use mathlib.Core.Path.{_≡_, sym, _∙_}
 use mathlib.Core.List.{List}
 use native.Mathlib.Omega.{arith}
 use lib.ListN.{length}
 use borrow.Author.Needs.{needs}
-use borrow.Author.Tests.{le-leb, eq-eqb}
+use borrow.Author.Tests.{le-leb, lt-leb, eq-eqb, ne-eqb}
 use Rattle.image.specs.Image.{widest, trailer, regions, demand, trailerRefusal, cutRefusal}
 use Rattle.image.specs.Laws.{placed}
 use Rattle.image.specs.Walk.{Tallied, Walked, refused-tally}
 use Rattle.image.specs.declared.Trailer.{Trailer}
 use Rattle.image.specs.declared.Tally.{Tally}
-use Rattle.image.proofs.Demand.{meets-leb, fails-leb, fails-eqb}
+use Rattle.image.proofs.Demand.{demands}
 use Rattle.image.proofs.survey.Statement.{statement}
 use Rattle.image.proofs.survey.Tie as tie
+use Rattle.image.proofs.survey.Reads as reads
+use Rattle.image.proofs.survey.Lts as lts
+use Rattle.image.proofs.read_trailer.Reads as read-trailer-reads
+use Rattle.image.proofs.refused.Reads as refused-reads
+use Rattle.image.proofs.trailer_refusal.Reads as trailer-refusal-reads
+use Rattle.image.proofs.walk.Reads as walk-reads
 
--- the trailer is refused
-in-trailer : (file : List ℕ) (t : Trailer) (S n : ℕ) → t ≡ trailer file → 1 ≤ S → S ≤ widest
-    → n ≡ trailerRefusal (length file) t → (n ≡ 0 → ⊥) → n ≡ cutRefusal file S
-in-trailer file t S n e l m w ne =
-    let w' : n ≡ trailerRefusal (length file) (trailer file) = w ∙ ap (trailerRefusal (length file)) e in
-    w' ∙ meets-leb _ _ _ _ _ l (meets-leb _ _ _ _ _ m (fails-eqb _ _ _ _ (λ z. ne (w' ∙ z))))
+-- the size of segments is accepted
+module _ (file : List ℕ) (S : ℕ) (l : 1 ≤ S) (m : S ≤ widest) where
+  -- the file is too short for a trailer
+  short : length file < 16 → 5 ≡ cutRefusal file S
+  unfolding demand
+  short h = rw (le-leb 1 S l, le-leb S widest m, lt-leb 16 (length file) h)
 
--- the trailer is accepted, so that the entries decide
-in-entries : (file : List ℕ) (t : Trailer) (S i : ℕ) (a : Tally) → t ≡ trailer file → 1 ≤ S → S ≤ widest
-    → trailerRefusal (length file) t ≡ 0 → Walked file (t .directory) (t .count) S i a → Tallied (cutRefusal file S) S i (regions file) a
-unfolding demand
-in-entries file t S i a e l m w k = rw (← e, le-leb 1 S l, le-leb S widest m, eq-eqb (trailerRefusal (length file) t) 0 w) k
+  -- the trailer is refused
+  in-trailer : (t : Trailer) (n : ℕ) → t ≡ trailer file → n ≡ trailerRefusal (length file) t → (n ≡ 0 → ⊥) → n ≡ cutRefusal file S
+  unfolding demand
+  in-trailer t n e w ne =
+      rw (← e, le-leb 1 S l, le-leb S widest m, ← w, ne-eqb n 0 ne)
 
+  -- the trailer is accepted, so that the entries decide
+  in-entries : (t : Trailer) (i : ℕ) (a : Tally) → t ≡ trailer file → trailerRefusal (length file) t ≡ 0
+      → Walked file (t .directory) (t .count) S i a → Tallied (cutRefusal file S) S i (regions file) a
+  unfolding demand
+  in-entries t i a e w k = rw (← e, le-leb 1 S l, le-leb S widest m, eq-eqb (trailerRefusal (length file) t) 0 w) k
+
+-- src/lib.rt:220:9
 refused-requires : tie.Need-refused-requires
 refused-requires c κs = search needs
 
+-- src/lib.rt:220:9
 returns : tie.Need-returns
-returns c = refused-tally _ _ _ _ _ _ (c .refused .ensures) (λ z. omega arith) (fails-leb _ _ _ _ (c .before .if1 .taken))
+returns c = refused-tally _ _ _ _ _ _ (c .refused .ensures) (λ z. omega arith) (search demands)
 
+-- src/lib.rt:223:9
 refused-requires-2 : tie.Need-refused-requires-2
 refused-requires-2 c κs = search needs
 
+-- src/lib.rt:223:9
 returns-2 : tie.Need-returns-2
-returns-2 c = refused-tally _ _ _ _ _ _ (c .refused2 .ensures) (λ z. omega arith)
-    (meets-leb _ _ _ _ _ (c .before .before .if1 .left) (fails-leb _ _ _ _ (c .before .if2 .taken)))
+returns-2 c = refused-tally _ _ _ _ _ _ (c .refused2 .ensures) (λ z. omega arith) (search demands)
 
-trailer-refusal-requires : tie.Need-trailer-refusal-requires
-trailer-refusal-requires c κs = search needs
-
+-- src/lib.rt:226:9
 refused-requires-3 : tie.Need-refused-requires-3
 refused-requires-3 c κs = search needs
 
+-- src/lib.rt:226:9
 returns-3 : tie.Need-returns-3
-returns-3 c = refused-tally _ _ _ _ _ _ (c .refused3 .ensures) (c .before .if3 .taken)
-    (in-trailer _ _ _ _ (c .before .before .before .before .before .before .pre) (c .before .before .before .before .if1 .left) (c .before .before .before .if2 .left) (c .before .before .trailer-refusal .ensures) (c .before .if3 .taken))
+returns-3 c = refused-tally _ _ _ _ _ _ (c .refused3 .ensures) (λ z. omega arith) (short _ _ (c .before .before .before .if1 .left) (c .before .before .if2 .left) (c .before .if3 .taken))
 
-walk-requires : tie.Need-walk-requires
-walk-requires c κs = let p = placed (length (c .before .before .before .before .before .args .file .now)) (c .before .before .before .before .before .args .t) (sym (c .before .trailer-refusal .ensures) ∙ c .if3 .left) in
-    (omega arith, c .before .before .before .if1 .left)
+-- src/lib.rt:228:9
+read-trailer-requires : tie.Need-read-trailer-requires
+read-trailer-requires c κs = search needs
 
+-- src/lib.rt:229:9
+trailer-refusal-requires : tie.Need-trailer-refusal-requires
+trailer-refusal-requires c κs = search needs
+
+-- src/lib.rt:231:9
+refused-requires-4 : tie.Need-refused-requires-4
+refused-requires-4 c κs = search needs
+
+-- src/lib.rt:231:9
 returns-4 : tie.Need-returns-4
-returns-4 c = in-entries _ _ _ _ _ (c .before .before .before .before .before .before .pre) (c .before .before .before .before .if1 .left) (c .before .before .before .if2 .left) (sym (c .before .before .trailer-refusal .ensures) ∙ c .before .if3 .left) (c .walk .ensures)
+returns-4 c = refused-tally _ _ _ _ _ _ (c .refused4 .ensures) (c .before .if4 .taken)
+    (in-trailer _ _ (c .before .before .before .before .before .before .if1 .left) (c .before .before .before .before .before .if2 .left) _ _ (c .before .before .before .read-trailer .ensures) (c .before .before .trailer-refusal .ensures) (c .before .if4 .taken))
+
+-- src/lib.rt:233:5
+walk-requires : tie.Need-walk-requires
+walk-requires c κs = let p = placed (length (c .before .before .before .before .before .before .before .args .file .now)) (c .before .before .read-trailer .result) (sym (c .before .trailer-refusal .ensures) ∙ c .if4 .left) in
+    (omega arith, c .before .before .before .before .before .if1 .left)
+
+-- src/lib.rt:216:1
+returns-5 : tie.Need-returns-5
+returns-5 c = in-entries _ _ (c .before .before .before .before .before .before .if1 .left) (c .before .before .before .before .before .if2 .left) _ _ _ (c .before .before .before .read-trailer .ensures) (sym (c .before .before .trailer-refusal .ensures) ∙ c .before .if4 .left) (c .walk .ensures)
 
 pub survey-spec : {M : Type 1} → statement M
 survey-spec =
@@ -66,8 +98,11 @@ survey-spec =
     returns
     refused-requires-2
     returns-2
-    trailer-refusal-requires
     refused-requires-3
     returns-3
+    read-trailer-requires
+    trailer-refusal-requires
+    refused-requires-4
+    returns-4
     walk-requires
-    returns-4)
+    returns-5)

@@ -1,6 +1,12 @@
 use borrow.Author.Needs.{needs}
 use Rattle.octets.specs.Number.{low}
 use Rattle.message.specs.Write.{layout, write}
+use mathlib.Core.Path.{_≡_, refl}
+use Prim.Native.Nat.{ℕ}
+use mathlib.Core.List.{List, [], _∷_, _++_}
+use lib.ListN.{getD}
+use Rattle.message.specs.Message.{memoryLoadTransfer}
+use Rattle.message.specs.Laws.{wrote}
 use Rattle.writer.proofs.memory_load_transfer.Statement.{statement}
 use Rattle.writer.proofs.memory_load_transfer.Tie as tie
 use Rattle.writer.proofs.memory_load_transfer.Reads as reads
@@ -66,8 +72,15 @@ same-length c = search needs
 
 -- src/lib.rt:10:1
 returns : tie.Need-returns
-unfolding write layout low
-returns c = rw (c .before .before .before .before .before .before .before .low32 .ensures, c .before .before .before .before .before .before .low322 .ensures) at (c .before .before .lay-three .ensures)
+unfolding layout low
+returns c =
+    let a = c .before .before .before .before .before .before .before .before .before .before .args in
+    let p = c .before .before .before .before .before .before .before .low32 .result in
+    let t = c .before .before .before .before .before .before .low322 .result in
+    let m = memoryLoadTransfer (a .number) (a .address) (a .bytes .now) (a .transfer) in
+    let f : List ℕ = 0 ∷ a .number ∷ getD p 0 0 ∷ getD p 1 0 ∷ getD p 2 0 ∷ getD p 3 0 ∷ (a .bytes .now ++ (getD t 0 0 ∷ getD t 1 0 ∷ getD t 2 0 ∷ getD t 3 0 ∷ [])) in
+    let e : f ≡ layout m = rw (c .before .before .before .before .before .before .before .low32 .ensures, c .before .before .before .before .before .before .low322 .ensures) in
+    wrote m (a .out .now) f (c .before .before .lay-three .ensures) e refl
 
 pub memory-load-transfer-spec : {M : Type 1} → statement M
 memory-load-transfer-spec =
