@@ -8,9 +8,9 @@ use std::hint::black_box;
 use std::time::{Duration, Instant};
 
 /// Turns that each of the two gets; the medians are printed.
-const ROUNDS: usize = 41;
-/// The least time for a turn.
-const TURN: Duration = Duration::from_millis(4);
+const ROUNDS: usize = 401;
+/// The least time for a turn: short, so that few turns are interrupted.
+const TURN: Duration = Duration::from_micros(200);
 const SEGMENT_SIZE: u32 = 1490;
 
 fn main() {
@@ -40,10 +40,10 @@ fn main() {
         mix.extend(frames);
     }
     read("read, all of these", &mix);
-    for (regions, bytes) in [(1, 60_000), (64, 60_000)] {
-        let file = image(regions, bytes);
-        check(&format!("image check, {regions} regions"), &file);
-        segment(&format!("image segment, {regions} regions"), &file);
+    for (regions, name) in [(1, "1 region"), (64, "64 regions")] {
+        let file = image(regions, 60_000);
+        check(&format!("image check, {name}"), &file);
+        segment(&format!("image segment, {name}"), &file);
     }
 }
 
@@ -110,15 +110,11 @@ fn compare<T>(name: &str, inputs: &[T], proved: impl Fn(&T), plain: impl Fn(&T))
     let calls = (passes * inputs.len()) as f64;
     let mut rounds = Vec::new();
     for round in 0..ROUNDS {
-        let (first, second) = if round % 2 == 0 {
-            let first = turn(inputs, passes, &proved);
-            (first, turn(inputs, passes, &plain))
-        } else {
-            let second = turn(inputs, passes, &plain);
-            (turn(inputs, passes, &proved), second)
-        };
+        let early = (round % 2 == 0).then(|| turn(inputs, passes, &proved));
+        let plain = turn(inputs, passes, &plain);
+        let proved = early.unwrap_or_else(|| turn(inputs, passes, &proved));
         let nanoseconds = |time: Duration| time.as_nanos() as f64 / calls;
-        rounds.push((nanoseconds(first), nanoseconds(second)));
+        rounds.push((nanoseconds(proved), nanoseconds(plain)));
     }
     let of = |number: fn(&(f64, f64)) -> f64| median(rounds.iter().map(number).collect());
     println!(

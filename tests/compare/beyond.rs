@@ -4,7 +4,9 @@
 use std::alloc::{Layout, alloc_zeroed, dealloc};
 use std::slice;
 
-use crate::{Compare, images};
+use crate::tally::Hex;
+use crate::writing::write_proved;
+use crate::{Compare, Wanted, images};
 use mop_plain::frame::Frame;
 
 const BEYOND: usize = 1 << 32;
@@ -111,12 +113,7 @@ impl Compare {
         ];
         for (frame, wanted) in frames {
             for room in [0, 20, 1500] {
-                self.write(
-                    "above 32 bits",
-                    &frame,
-                    room,
-                    crate::Wanted::Refusal(wanted),
-                );
+                self.write("above 32 bits", &frame, room, Wanted::Refusal(wanted));
             }
         }
     }
@@ -127,15 +124,15 @@ impl Compare {
             number: 7,
             error: 1,
         };
-        let seen = crate::writing::write_proved(&frame, &mut bytes[..BEYOND + 1]);
+        let seen = write_proved(&frame, &mut bytes[..BEYOND + 1]);
         let wanted = mop_proved::Written {
             length: 3,
             refusal: 0,
         };
         self.tally.write("above 32 bits", 10, seen.refusal);
         if seen != wanted || bytes[..4] != [10, 7, 1, 0] {
-            self.tally
-                .differ("writer, buffer above 32 bits", &bytes[..4], seen, wanted);
+            let what = format_args!("writer, buffer above 32 bits");
+            self.tally.differ(what, Hex(&bytes[..4]), seen, wanted);
         }
         bytes[..3].fill(0);
     }

@@ -3,6 +3,7 @@
 use crate::Compare;
 use crate::random::Random;
 use crate::reading::place;
+use crate::tally::Hex;
 use mop_plain::image;
 
 const FILE_MOST: usize = 16_777_216;
@@ -181,12 +182,13 @@ impl Compare {
         }
         let seen = mop_proved::image_check(file, size);
         if seen != expected {
-            let what = format!("image check, {kind}, segment size {size}");
-            self.tally.differ(&what, file, seen, expected);
+            let what = format_args!("image check, {kind}, segment size {size}");
+            self.tally.differ(what, Hex(file), seen, expected);
         }
         if wanted.is_some_and(|wanted| wanted != refusal) {
-            let what = format!("plain image check against the paper, {kind}, segment size {size}");
-            self.tally.differ(&what, file, refusal, wanted);
+            let what =
+                format_args!("plain image check against the paper, {kind}, segment size {size}");
+            self.tally.differ(what, Hex(file), refusal, wanted);
         }
     }
 
@@ -195,18 +197,12 @@ impl Compare {
     fn segments(&mut self, file: &[u8], size: u32, image: image::Image) {
         let count = image.segments();
         let any = [(); 4].map(|()| self.random.below(count));
-        let beyond = self.random.u64();
-        let ends = [
-            0,
-            count - 1,
-            count,
-            count + 1,
-            u64::MAX,
-            count + ADDRESS_END,
-            beyond,
-        ];
-        for index in ends
-            .into_iter()
+        let low = any[0];
+        let ends = [0, count - 1, count, count + 1, u64::MAX, self.random.u64()];
+        // Right only in the low 8, 16 or 32 bits.
+        let short = [8, 16, 32].map(|bits| low + (1 << bits));
+        for index in (ends.into_iter())
+            .chain(short)
             .chain(any)
             .chain(self.region_bounds(image, size))
         {
@@ -246,8 +242,8 @@ impl Compare {
         self.tally.segment(expected.refusal);
         let seen = mop_proved::image_segment(file, size, index);
         if seen != expected {
-            let what = format!("segment {index}, segment size {size}");
-            self.tally.differ(&what, file, seen, expected);
+            let what = format_args!("segment {index}, segment size {size}");
+            self.tally.differ(what, Hex(file), seen, expected);
         }
     }
 
@@ -269,8 +265,8 @@ impl Compare {
                     && segment.length as usize == full
                     && (segment.last == 1) == (index + 1 == count);
                 if !good {
-                    let what = format!("walk at segment {index}, segment size {size}");
-                    self.tally.differ(&what, file, segment, (address, full));
+                    let what = format_args!("walk at segment {index}, segment size {size}");
+                    self.tally.differ(what, Hex(file), segment, (address, full));
                     return;
                 }
                 let at = segment.at as usize;
@@ -278,14 +274,22 @@ impl Compare {
                 index += 1;
             }
             if bytes != file[offset..offset + length] {
-                let what = format!("region put together, segment size {size}");
-                self.tally
-                    .differ(&what, file, &bytes, &file[offset..offset + length]);
+                let what = format_args!("region put together, segment size {size}");
+                self.tally.differ(
+                    what,
+                    Hex(file),
+                    Hex(&bytes),
+                    Hex(&file[offset..offset + length]),
+                );
             }
         }
         if index != count {
-            self.tally
-                .differ("segments in all regions", file, count, index);
+            self.tally.differ(
+                format_args!("segments in all regions"),
+                Hex(file),
+                count,
+                index,
+            );
         }
     }
 
@@ -328,8 +332,12 @@ impl Compare {
         self.image("set cases", &three, Some(0));
         let segments = mop_proved::image_check(&three, 2).segments;
         if segments != 2 {
-            self.tally
-                .differ("K10, segment size 2", &three, segments, 2);
+            self.tally.differ(
+                format_args!("K10, segment size 2"),
+                Hex(&three),
+                segments,
+                2,
+            );
         }
         let example = Region {
             address: 2,

@@ -2,7 +2,7 @@
 
 use crate::Compare;
 use crate::make;
-use crate::tally::CODES;
+use crate::tally::{CODES, Hex};
 use mop_plain::frame::{self, Frame};
 
 impl Compare {
@@ -15,12 +15,13 @@ impl Compare {
         let seen = mop_proved::read(bytes);
         self.tally.frame(kind, bytes, expected.refusal);
         if seen != expected {
-            self.tally
-                .differ(&format!("reader, {kind}"), bytes, seen, expected);
+            let what = format_args!("reader, {kind}");
+            self.tally.differ(what, Hex(bytes), seen, expected);
         }
         if wanted.is_some_and(|wanted| wanted != expected.refusal) {
-            let what = format!("plain reader against the paper, {kind}");
-            self.tally.differ(&what, bytes, expected.refusal, wanted);
+            let what = format_args!("plain reader against the paper, {kind}");
+            self.tally
+                .differ(what, Hex(bytes), expected.refusal, wanted);
         }
         if let Ok(frame) = plain {
             self.rewrite(&frame, bytes);
@@ -85,8 +86,9 @@ impl Compare {
                 error: 0,
             })
         {
+            let what = format_args!("plain reader, K2");
             self.tally
-                .differ("K2", &[10, 1, 0], "other fields", "number 1, error 0");
+                .differ(what, Hex(&[10, 1, 0]), "other fields", "number 1, error 0");
         }
     }
 

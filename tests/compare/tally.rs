@@ -1,7 +1,7 @@
 //! What was seen: cases of each kind, refusals, differences.
 
 use std::collections::BTreeMap;
-use std::fmt::Debug;
+use std::fmt::{self, Debug};
 
 /// How often each refusal came; at 0, how often none did.
 pub type Refusals = [u64; 11];
@@ -114,11 +114,17 @@ impl Tally {
     }
 
     /// Reports a difference, with the input that showed it.
-    pub fn differ(&mut self, what: &str, input: &[u8], seen: impl Debug, wanted: impl Debug) {
+    pub fn differ(
+        &mut self,
+        what: fmt::Arguments,
+        input: impl Debug,
+        seen: impl Debug,
+        wanted: impl Debug,
+    ) {
         self.differences += 1;
         if self.differences <= SHOWN {
             println!("DIFFERENCE: {what}");
-            println!("  input  {}", hexadecimal(input));
+            println!("  input  {input:02X?}");
             println!("  seen   {seen:02X?}");
             println!("  wanted {wanted:02X?}");
         }
@@ -208,16 +214,21 @@ fn seen(row: &Refusals) -> String {
         .collect()
 }
 
-/// A long input is shown by its two ends.
-fn hexadecimal(bytes: &[u8]) -> String {
-    const END: usize = 2048;
-    let digits = |bytes: &[u8]| -> String { bytes.iter().map(|b| format!("{b:02X}")).collect() };
-    if bytes.len() <= 2 * END {
-        return digits(bytes);
+/// Bytes shown in hexadecimal, a long string by its two ends.
+pub struct Hex<'a>(pub &'a [u8]);
+
+impl Debug for Hex<'_> {
+    fn fmt(&self, to: &mut fmt::Formatter) -> fmt::Result {
+        const END: usize = 2048;
+        let Hex(bytes) = self;
+        let (first, rest) = bytes.split_at(bytes.len().min(END));
+        let (between, last) = rest.split_at(rest.len().saturating_sub(END));
+        first.iter().try_for_each(|byte| write!(to, "{byte:02X}"))?;
+        if !between.is_empty() {
+            write!(to, " ({} bytes) ", between.len())?;
+        }
+        last.iter().try_for_each(|byte| write!(to, "{byte:02X}"))
     }
-    let (first, last) = (&bytes[..END], &bytes[bytes.len() - END..]);
-    let between = bytes.len() - 2 * END;
-    format!("{} ({between} bytes) {}", digits(first), digits(last))
 }
 
 /// A number with a comma at every third digit.

@@ -1,6 +1,9 @@
 //! Compares the writers.
 
+use std::fmt::Debug;
+
 use crate::make;
+use crate::tally::Hex;
 use crate::{Compare, Wanted};
 use mop_plain::frame::{self, Frame};
 use mop_proved::Written;
@@ -37,14 +40,14 @@ impl Compare {
 
         let expected = written(answer);
         if seen != expected {
-            self.differ_in_writer(kind, frame, &before, seen, expected);
+            self.differ_in_writer(kind, frame, room, seen, expected);
         }
         if proved != plain {
-            self.differ_in_writer(kind, frame, &before, &proved, &plain);
+            self.differ_in_writer(kind, frame, room, Hex(&proved), Hex(&plain));
         }
         let right = wanted_buffer(frame, answer, wanted, &before, &plain);
         if let Err(wanted) = right {
-            self.differ_in_writer(kind, frame, &before, (answer, &plain), wanted);
+            self.differ_in_writer(kind, frame, room, (answer, Hex(&plain)), wanted);
         }
     }
 
@@ -52,16 +55,17 @@ impl Compare {
         &mut self,
         kind: &str,
         frame: &Frame,
-        before: &[u8],
-        seen: impl std::fmt::Debug,
-        wanted: impl std::fmt::Debug,
+        room: usize,
+        seen: impl Debug,
+        wanted: impl Debug,
     ) {
-        let room = before.len() - 2 * MARGIN;
-        let what = format!(
-            "writer, {kind}, buffer of {room} bytes with {MARGIN} around, {frame:02X?}; \
-             the input is what was in the buffer"
-        );
-        self.tally.differ(&what, before, seen, wanted);
+        let shown: &dyn Debug = match frame.length() {
+            ..100_000 => frame,
+            _ => &"more bytes than can be shown",
+        };
+        let code = frame.code();
+        let what = format_args!("writer of code {code}, {kind}, buffer of {room} bytes");
+        self.tally.differ(what, shown, seen, wanted);
     }
 
     /// Writers given arguments of all sorts.

@@ -17,6 +17,19 @@ const NAME_MOST: u8 = 16;
 const ADDRESS_MOST: u8 = 6;
 const TIME_LENGTH: u8 = 10;
 
+/// Least and most of a time's century, year, month, day, hour, minute, second
+/// and hundredths. The offset's hours and minutes follow, with signs.
+const TIME_BOUNDS: [(u8, u8); 8] = [
+    (0, 127),
+    (0, 100),
+    (1, 12),
+    (1, 31),
+    (0, 23),
+    (0, 59),
+    (0, 59),
+    (0, 99),
+];
+
 /// Takes the entries and their end mark, and gives the entries without it.
 /// The walk knows nothing of the transfer address behind: an entry may
 /// swallow it, and then the bytes run out.
@@ -63,41 +76,37 @@ fn short_value(most: u8, cursor: &mut Cursor) -> Result<(), Refusal> {
     cursor.take(length.into()).map(|_| ())
 }
 
-/// Length and value of a host time. There is no calendar: 31 February passes.
+/// Length and value of a host time. A bad field that is there is found before
+/// the end of a time that is cut short.
 fn host_time(cursor: &mut Cursor) -> Result<(), Refusal> {
-    field(cursor, |length| length == TIME_LENGTH)?;
-    field(cursor, |century| century <= 127)?;
-    field(cursor, |year| year <= 100)?;
-    field(cursor, |month| (1..=12).contains(&month))?;
-    field(cursor, |day| (1..=31).contains(&day))?;
-    field(cursor, |hour| hour <= 23)?;
-    field(cursor, |minute| minute <= 59)?;
-    field(cursor, |second| second <= 59)?;
-    field(cursor, |hundredths| hundredths <= 99)?;
-    let hours = field(cursor, |hours| (-12..=13).contains(&signed(hours)))?;
-    field(cursor, |minutes| {
-        offset_agrees(signed(hours), signed(minutes))
-    })?;
-    Ok(())
+    if cursor.u8()? != TIME_LENGTH {
+        return Err(OUTSIDE_LIST);
+    }
+    let present = cursor.peek().len().min(TIME_LENGTH.into());
+    if !time_is_good(&cursor.peek()[..present]) {
+        return Err(OUTSIDE_LIST);
+    }
+    cursor.take(TIME_LENGTH.into()).map(|_| ())
 }
 
-/// The next byte, if it is `good`.
-fn field(cursor: &mut Cursor, good: impl Fn(u8) -> bool) -> Result<u8, Refusal> {
-    let byte = cursor.u8()?;
-    if good(byte) {
-        Ok(byte)
-    } else {
-        Err(OUTSIDE_LIST)
-    }
+/// Whether those fields of a time that are there are good. There is no
+/// calendar: 31 February passes.
+fn time_is_good(fields: &[u8]) -> bool {
+    let (unsigned, offset) = fields.split_at(fields.len().min(TIME_BOUNDS.len()));
+    let in_bounds = |(&field, &(least, most)): (&u8, &(u8, u8))| least <= field && field <= most;
+    unsigned.iter().zip(&TIME_BOUNDS).all(in_bounds) && offset_is_good(offset)
+}
+
+/// The offset's hours and minutes, as far as they are there. The minutes have
+/// not the opposite sign to the hours; zero agrees with either.
+fn offset_is_good(offset: &[u8]) -> bool {
+    let hours = offset.first().map_or(0, |&byte| signed(byte));
+    let minutes = offset.get(1).map_or(0, |&byte| signed(byte));
+    let agree = hours.signum() * minutes.signum() >= 0;
+    (-12..=13).contains(&hours) && (-59..=59).contains(&minutes) && agree
 }
 
 /// Two's complement.
 fn signed(byte: u8) -> i8 {
     i8::from_le_bytes([byte])
-}
-
-/// The offset minutes are in range and have not the opposite sign to the
-/// hours; zero agrees with either.
-fn offset_agrees(hours: i8, minutes: i8) -> bool {
-    (-59..=59).contains(&minutes) && hours.signum() * minutes.signum() >= 0
 }

@@ -122,14 +122,15 @@ impl<'a> Image<'a> {
 
     /// Segment number `index`, counted from 0, if there is one.
     pub fn segment(&self, index: u64) -> Option<Segment<'a>> {
-        let mut before = 0;
-        for region in self.regions() {
-            let count = region.segments(self.segment_size);
-            if index - before < count {
-                let last = index + 1 == self.segments();
-                return Some(self.cut(region, index - before, last));
+        let mut regions = self.regions();
+        let mut part = index;
+        while let Some(region) = regions.next() {
+            let parts = region.segments(self.segment_size);
+            if part < parts {
+                let last = regions.len() == 0 && part + 1 == parts;
+                return Some(self.cut(region, part, last));
             }
-            before += count;
+            part -= parts;
         }
         None
     }

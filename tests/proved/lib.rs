@@ -1,8 +1,10 @@
 //! The proved library, libmop.a, behind safe functions.
 //!
-//! The declarations mirror include/mop.h; nothing checks them against it but
-//! the eye and the comparison. A slice goes over as a pointer and a length.
+//! The declarations mirror include/mop.h. The layout of the structs is fixed
+//! below and, for the header, in layout.c; the rest is left to the eye and the
+//! comparison. A slice goes over as a pointer and a length.
 
+use std::mem::offset_of;
 use std::ptr;
 use std::sync::atomic::{AtomicBool, Ordering};
 
@@ -59,6 +61,16 @@ pub struct Segment {
     pub last: u8,
     pub refusal: u8,
 }
+
+// The same numbers as in layout.c.
+const _: () = {
+    assert!(size_of::<Frame>() == 64 && offset_of!(Frame, address) == 32);
+    assert!(offset_of!(Frame, count) == 44 && offset_of!(Frame, refusal) == 48);
+    assert!(offset_of!(Frame, compatibility) == 57);
+    assert!(size_of::<Written>() == 16 && offset_of!(Written, refusal) == 8);
+    assert!(size_of::<Image>() == 16 && offset_of!(Image, refusal) == 14);
+    assert!(size_of::<Segment>() == 24 && offset_of!(Segment, refusal) == 17);
+};
 
 #[link(name = "mop", kind = "static")]
 unsafe extern "C" {

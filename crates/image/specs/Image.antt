@@ -43,7 +43,7 @@ trailerOf s =
       count = word 2 s 4;
       zero = word 2 s 6;
       transfer = word 4 s 8;
-      length = word 4 s 12
+      length = word 4 s 12;
     }
 
 -- the trailer is the file's last 16 bytes
@@ -133,7 +133,7 @@ cut S r j =
     record {
       address = r .address + j * S;
       place = r .place + j * S;
-      length = min S (r .length - j * S)
+      length = min S (r .length - j * S);
     }
 
 -- N, the number of segments

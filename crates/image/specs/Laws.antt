@@ -35,7 +35,7 @@ first-none n after h = go (eqb n 0) refl h
     go true e g = (eqb-true n 0 e, g)
     go false e g = absurd (eqb-false n 0 e g)
 
--- what an entry's acceptance says of it: it has bytes, all before the directory; its addresses exist, from the end of the region before on
+-- what an entry's acceptance says: it has bytes, all before the directory, and its addresses exist, none below `end`
 pub record Fit (directory end : ℕ) (r : Region) : Type 0 where
   pub some : 1 ≤ r .length
   pub within : r .place + r .length ≤ directory
@@ -52,7 +52,7 @@ fit directory end r h =
       some = leb-true _ _ (a .0);
       within = leb-true _ _ (b .0);
       below = leb-true _ _ (c .0);
-      after = leb-true _ _ (d .0)
+      after = leb-true _ _ (d .0);
     }
 
 -- ---- an accepted directory: `entriesRefusal directory end rs ≡ 0`
@@ -63,7 +63,7 @@ accepted-cons directory end r rs h =
     let both = first-none (entryRefusal directory end r) (entriesRefusal directory (ending r) rs) h in
     (fit directory end r (both .0), both .1)
 
--- every region fits, and begins where the walk over the directory stood, or later
+-- every region fits
 pub region-fit : (directory end : ℕ) (rs : List Region) (k : ℕ)
     → entriesRefusal directory end rs ≡ 0 → k < length rs → Fit directory end (getD rs k nowhere)
 region-fit directory end [] k h l = absurd (omega arith)
@@ -73,7 +73,7 @@ region-fit directory end (r ∷ rs) (suc k) h l =
     let later = region-fit directory (ending r) rs k (both .1) (omega arith) in
     record { some = later .some; within = later .within; below = later .below; after = omega arith }
 
--- the regions ascend, and no two share an address
+-- a region begins at the end of any before it, or later: no two share an address
 pub ascending : (directory end : ℕ) (rs : List Region) (j k : ℕ)
     → entriesRefusal directory end rs ≡ 0 → j < k → k < length rs → ending (getD rs j nowhere) ≤ getD rs k nowhere .address
 ascending directory end [] j k h l m = absurd (omega arith)
@@ -96,6 +96,7 @@ entries-cons file at (suc n) h =
     rw e
 
 -- ---- segments
+-- the first region's parts come first, then the segments of the others
 pub segment-here : (S : ℕ) (r : Region) (rs : List Region) (j : ℕ) → j < parts S r → segment S (r ∷ rs) j ≡ cut S r j
 unfolding segment
 segment-here S r rs j h = rw (lt-ltb j (parts S r) h)
@@ -127,6 +128,7 @@ segment-cases P S r rs i here beyond = go (ltb i (parts S r)) refl
     go true e = here (ltb-true i (parts S r) e)
     go false e = beyond (ltb-false i (parts S r) e)
 
+-- regions that share no address have no more segments than there are addresses
 pub many-bound : (S directory end : ℕ) (rs : List Region)
     → 1 ≤ S → entriesRefusal directory end rs ≡ 0 → end ≤ addresses → end + many S rs ≤ addresses
 unfolding many
@@ -164,7 +166,7 @@ segment-held S directory end (r ∷ rs) i s h l =
     (λ m. segment-held S directory (ending r) rs (i - parts S r) s (both .1) (omega arith))
 
 -- ---- a whole file
--- what the acceptance of a file's length n and its trailer says
+-- what the acceptance of a trailer says, in a file of n bytes
 pub record Placed (n : ℕ) (t : Trailer) : Type 0 where
   pub long : 16 ≤ n
   pub short : n ≤ longest
@@ -186,10 +188,10 @@ placed n t h =
       short = leb-true _ _ (b .0);
       some = leb-true _ _ (e .0);
       few = leb-true _ _ (f .0);
-      placed = eqb-true _ _ (g .0)
+      placed = eqb-true _ _ (g .0);
     }
 
--- what acceptance says: of the size of segments, of the trailer, of the directory
+-- what acceptance says of a file and a size of segments
 pub record Ready (file : List ℕ) (S : ℕ) : Type 0 where
   pub some : 1 ≤ S
   pub narrow : S ≤ widest
@@ -208,9 +210,10 @@ module _ (file : List ℕ) (S : ℕ) (h : cutRefusal file S ≡ 0) where
   pub many-range : (1 ≤ many S (regions file)) × (many S (regions file) ≤ addresses)
   many-range =
       let r = ready file S h in
-      let l = length-entries file (trailer file .directory) (trailer file .count) in
-      (many-some S _ 0 (regions file) (r .some) (r .fitting) (omega arith),
-      omega (arith, many-bound S _ 0 (regions file) (r .some) (r .fitting) (omega arith)))
+      let l = length-entries file (trailer file .directory) (trailer file .count) in (
+        many-some S _ 0 (regions file) (r .some) (r .fitting) (omega arith),
+        omega (arith, many-bound S _ 0 (regions file) (r .some) (r .fitting) (omega arith)),
+      )
 
   -- every segment
   pub file-segment : (i : ℕ) → i < many S (regions file) → Held S (length file) (segment S (regions file) i)
@@ -251,16 +254,17 @@ agrees file S count transfer n h = go (eqb (cutRefusal file S) 0) refl h
   where
     whole : Checked
     whole = checked-is.Accepted (trailer file .count) (trailer file .transfer) (many S (regions file))
+
     go : (b : Bool) → eqb (cutRefusal file S) 0 ≡ b → pick b whole (checked-is.Refused (cutRefusal file S)) ≡ checked-is.Accepted count transfer n
         → Agrees file S count transfer n
     go true e g = record { none = eqb-true _ _ e; counted = cc; started = cc; numbered = cc }
     go false e g = let z : _≡_ {A = ℕ} 0 1 = cc in absurd (omega arith)
 
--- ---- fields of a file of bytes
+-- ---- a file of bytes
 pub octets-part : (n at : ℕ) (file : List ℕ) → Octets file → Octets (take n (drop at file))
 octets-part n at file o k l =
     let inside : (k < n) × (at + k < length file) =
-        omega (arith, length-take n (drop at file), length-drop at file) in
+    omega (arith, length-take n (drop at file), length-drop at file) in
     rw (getD-take n (drop at file) k 0 (inside .0), getD-drop) (o (at + k) (inside .1))
 
 pub word-bound : (n at : ℕ) (file : List ℕ) → Octets file → word n file at < 256 ^ n

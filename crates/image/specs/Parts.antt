@@ -52,19 +52,20 @@ pub joined-take : (file : List ℕ) (S : ℕ) (r : Region) (j : ℕ) → joined 
 unfolding joined
 joined-take file S r zero = rw zero-mul
 joined-take file S r (suc j) =
-    rw
-    (joined-take file S r j,
-    suc-mul,
-    take-add (j * S) S (bytes file r),
-    drop-take,
-    take-min S (r .length - j * S) (drop (j * S) (drop (r .place) file)),
-    drop-drop)
+    rw (
+      joined-take file S r j,
+      suc-mul,
+      take-add (j * S) S (bytes file r),
+      drop-take,
+      take-min S (r .length - j * S) (drop (j * S) (drop (r .place) file)),
+      drop-drop,
+    )
 
 -- all parts, end to end, are the region
 pub joined-whole : (file : List ℕ) (S : ℕ) (r : Region) → 1 ≤ S → joined file S r (parts S r) ≡ bytes file r
 joined-whole file S r s =
     let all : length (bytes file r) ≤ parts S r * S =
-        omega (arith, parts-cover S r s, length-take (r .length) (drop (r .place) file)) in
+    omega (arith, parts-cover S r s, length-take (r .length) (drop (r .place) file)) in
     rw (joined-take file S r (parts S r)) (take-all (parts S r * S) (bytes file r) all)
 
 pub length-bytes : (file : List ℕ) (r : Region) → r .place + r .length ≤ length file → length (bytes file r) ≡ r .length

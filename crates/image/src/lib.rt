@@ -8,10 +8,16 @@ ghost use Rattle.image.specs.Image.{addresses, trailer, entryAt, regions
 ghost use Rattle.image.specs.Image.{trailerRefusal, entryRefusal, cutRefusal, parts, cut, checked, found};
 ghost use Rattle.image.specs.Walk.{Tallied, Walked};
 
-// The most bytes of a file, the most entries of a directory, the number of addresses, the most bytes of a segment.
+// The most bytes of a file.
 const LONGEST: usize = 16777216;
+
+// The most entries of a directory.
 const MOST: u16 = 64;
+
+// The number of addresses.
 const ADDRESSES: u64 = 4294967296;
+
+// The most bytes of a segment.
 const WIDEST: u32 = 1490;
 
 // The trailer's fields.
@@ -30,18 +36,27 @@ pub struct Region {
     pub length: u32,
 }
 
-// What a file is, cut into segments of a given size.
+// How a file is cut into segments.
 pub enum Checked {
     // The number of regions, the transfer address, the number of segments.
-    Accepted { count: u16, transfer: u32, many: u64 },
+    Accepted {
+        count: u16,
+        transfer: u32,
+        many: u64,
+    },
     // A refusal, by paper 01's number.
     Refused(u8),
 }
 
-// What a segment is.
+// Where a segment is.
 pub enum Found {
     // Its memory address, where its bytes stand in the file and how many they are, and whether it is the last.
-    Segment { address: u32, at: usize, length: usize, last: bool },
+    Segment {
+        address: u32,
+        at: usize,
+        length: usize,
+        last: bool,
+    },
     // A refusal, by paper 01's number.
     Refused(u8),
 }
@@ -53,6 +68,7 @@ struct Tally {
     segment: Region,
 }
 
+// The trailer. Of a part whose length is known, the compiler reads each field with one load.
 fn read_trailer(file: &[u8]) -> Trailer
     requires { ⌜ 16 ≤ length (now file) ⌝ }
     ensures { λ r. ⌜ r ≡ trailer (now (file .entry)) ⌝ }
@@ -68,6 +84,7 @@ fn read_trailer(file: &[u8]) -> Trailer
     }
 }
 
+// The directory entry at a place, read likewise.
 fn read_entry(file: &[u8], at: usize) -> Region
     requires { ⌜ at + 12 ≤ length (now file) ⌝ }
     ensures { λ r. ⌜ r ≡ entryAt (now (file .entry)) at ⌝ }
@@ -177,13 +194,21 @@ fn reached(size: u32, r: Region, many: u64, next: u64, index: u64, before: Regio
 fn no_region() -> Region
     ensures { λ r. ⌜ r ≡ nowhere ⌝ }
 {
-    Region { address: 0, place: 0, length: 0 }
+    Region {
+        address: 0,
+        place: 0,
+        length: 0,
+    }
 }
 
 fn refused(n: u8) -> Tally
     ensures { λ t. ⌜ t .refusal ≡ n ⌝ }
 {
-    Tally { refusal: n, many: 0, segment: no_region() }
+    Tally {
+        refusal: n,
+        many: 0,
+        segment: no_region(),
+    }
 }
 
 // The directory's entries in turn: refusals 7 and 8, the number of segments, the segment of an index.
@@ -209,7 +234,11 @@ fn walk(file: &[u8], directory: u32, count: u16, size: u32, index: u64) -> Tally
         at += 12;
         left -= 1;
     }
-    Tally { refusal: 0, many, segment }
+    Tally {
+        refusal: 0,
+        many,
+        segment,
+    }
 }
 
 // The refusal of a segment size or a file, or 0 with the number of segments and the segment of an index.
@@ -233,7 +262,7 @@ fn survey(file: &[u8], size: u32, index: u64) -> Tally
     walk(file, t.directory, t.count, size, index)
 }
 
-// Whether a file is an image, and what it is cut into segments of `size` bytes.
+// Whether a file is an image, and how it is cut into segments of `size` bytes.
 pub fn check(file: &[u8], size: u32) -> Checked
     ensures { λ r. ⌜ r ≡ checked (now (file .entry)) size ⌝ }
 {
@@ -242,10 +271,14 @@ pub fn check(file: &[u8], size: u32) -> Checked
         return Checked::Refused(a.refusal);
     }
     let t = read_trailer(file);
-    Checked::Accepted { count: t.count, transfer: t.transfer, many: a.many }
+    Checked::Accepted {
+        count: t.count,
+        transfer: t.transfer,
+        many: a.many,
+    }
 }
 
-// The segment of an index, of a file cut into segments of `size` bytes.
+// Segment `index`, counted from 0, of a file cut into segments of `size` bytes.
 pub fn segment(file: &[u8], size: u32, index: u64) -> Found
     ensures { λ r. ⌜ r ≡ found (now (file .entry)) size index ⌝ }
 {

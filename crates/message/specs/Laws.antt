@@ -14,8 +14,7 @@ use lib.Dec.{eqb, leb, ltb}
 use borrow.Author.Tests.{eq-eqb, ne-eqb, lt-ltb, le-ltb, eqb-true, ltb-false, leb-true}
 use Rattle.octets.specs.Number.{number, low, Octets, octets-part, length-low, part-bound, number-low, low-number}
 use Rattle.octets.specs.declared.Written.{Written}
-use Rattle.octets.specs.declared.Written.the-variants.{Length, Refused}
-use Rattle.octets.specs.Lay.{Output, refuse, laid, Came}
+use Rattle.octets.specs.Lay.{Output, written, refuse, laid, Came}
 use Rattle.entries.specs.declared.Place.{Place}
 use Rattle.entries.specs.declared.Place.the-variants.{Kind, Size, Value, Time, Transfer, Outside, Excess}
 use Rattle.entries.specs.Entries.{walk}
@@ -307,30 +306,26 @@ read-short s m e =
 -- The two laws, of a writer's answer and buffer.
 
 -- what a writer wrote is read as the fields that it was given
-pub read-back : (m : Message) (out : List ℕ) (n : ℕ) → Sized m → write m out .answer ≡ Length n → read (take n (write m out .buffer)) ≡ message m
+pub read-back : (m : Message) (out : List ℕ) → Sized m → write m out .answer .refusal ≡ 0
+    → read (take (write m out .answer .length) (write m out .buffer)) ≡ message m
 unfolding write
-read-back m out n z =
+read-back m out z =
     by-cases P (listed m) _ _ (λ l.
-    by-cases P (ltb 1500 (length f)) _ _ (refusal 2) (λ s.
-    by-cases P (ltb (length out) (length f)) _ _ (refusal 9) (λ _. whole l s))) (refusal 4)
+    by-cases P (ltb 1500 (length f)) _ _ (λ _ e. absurd (omega arith)) (λ s.
+    by-cases P (ltb (length out) (length f)) _ _ (λ _ e. absurd (omega arith)) (λ _ _. whole l s))) (λ _ e. absurd (omega arith))
   where
     f : List ℕ
     f = layout m
 
     P : Output → Type 0
-    P o = o .answer ≡ Length n → read (take n (o .buffer)) ≡ message m
+    P o = o .answer .refusal ≡ 0 → read (take (o .answer .length) (o .buffer)) ≡ message m
 
-    refusal : (k : ℕ) {b c : Bool} → b ≡ c → P (refuse k out)
-    refusal k _ e = let z : _≡_ {A = ℕ} 0 1 = cc in absurd (omega arith)
-
-    whole : listed m ≡ true → ltb 1500 (length f) ≡ false → Length (length f) ≡ Length n → read (take n (f ++ drop (length f) out)) ≡ message m
-    whole l s e =
-        let size : length f ≡ n = cc in
-        rw (take-at f (drop (length f) out) n size) (read-written m z l (ltb-false 1500 (length f) s))
+    whole : listed m ≡ true → ltb 1500 (length f) ≡ false → read (take (length f) (f ++ drop (length f) out)) ≡ message m
+    whole l s = rw (take-at f (drop (length f) out) (length f) refl) (read-written m z l (ltb-false 1500 (length f) s))
 
 -- the writer of an accepted frame's fields writes that frame
 pub write-back : (s : List ℕ) (m : Message) → Octets s → read s ≡ message m → (out : List ℕ) → length s ≤ length out
-    → (write m out .answer ≡ Length (length s)) × (write m out .buffer ≡ s ++ drop (length s) out)
+    → (write m out .answer ≡ written (length s)) × (write m out .buffer ≡ s ++ drop (length s) out)
 unfolding write
 write-back s m o e out h =
     let b = written-read s o m e in

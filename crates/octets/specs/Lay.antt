@@ -9,7 +9,6 @@ use native.Mathlib.Omega.{arith}
 use lib.Dec.{ltb, leb}
 use borrow.Author.Tests.{lt-ltb, le-ltb, lt-leb, le-leb}
 use Rattle.octets.specs.declared.Written.{Written}
-use Rattle.octets.specs.declared.Written.the-variants.{Length, Refused}
 
 -- the first of two values if the test holds, else the second
 abbrev pub pick : {A : Type 0} → Bool → A → A → A
@@ -27,6 +26,13 @@ over bytes at buffer = take at buffer ++ (bytes ++ drop (at + length bytes) buff
 abbrev pub put : List ℕ → ℕ → List ℕ → List ℕ
 put bytes at buffer = pick (fits bytes at buffer) (over bytes at buffer) buffer
 
+-- a writer's answer: the frame's length, or a refusal's number
+abbrev pub written : ℕ → Written
+written n = record { length = n; refusal = 0 }
+
+abbrev pub refused : ℕ → Written
+refused r = record { length = 0; refusal = r }
+
 -- What a writer answers, and its buffer at exit.
 pub record Output : Type 0 where
   pub answer : Written
@@ -34,28 +40,28 @@ pub record Output : Type 0 where
 
 -- a refusal leaves the buffer as it was
 abbrev pub refuse : ℕ → List ℕ → Output
-refuse n out = record { answer = Refused n; buffer = out }
+refuse n out = record { answer = refused n; buffer = out }
 
 -- the frame, then what stood behind it; 2 for a frame above 1,500 bytes, then 9 for a buffer that is too short
 abbrev pub laid : List ℕ → List ℕ → Output
 laid frame out =
     pick (ltb 1500 (length frame)) (refuse 2 out)
     (pick (ltb (length out) (length frame)) (refuse 9 out)
-    (record { answer = Length (length frame); buffer = frame ++ drop (length frame) out }))
+    (record { answer = written (length frame); buffer = frame ++ drop (length frame) out }))
 
 -- what came out is that answer and that buffer
 abbrev pub Came : Output → Written → List ℕ → Type 0
 Came o answer buffer = (answer ≡ o .answer) × (buffer ≡ o .buffer)
 
 -- the three ways through `laid`
-pub laid-over : (frame out : List ℕ) → 1500 < length frame → Came (laid frame out) (Refused 2) out
+pub laid-over : (frame out : List ℕ) → 1500 < length frame → Came (laid frame out) (refused 2) out
 laid-over frame out h = rw (lt-ltb 1500 (length frame) h) (refl, refl)
 
-pub laid-short : (frame out : List ℕ) → length frame ≤ 1500 → length out < length frame → Came (laid frame out) (Refused 9) out
+pub laid-short : (frame out : List ℕ) → length frame ≤ 1500 → length out < length frame → Came (laid frame out) (refused 9) out
 laid-short frame out h l = rw (le-ltb 1500 (length frame) h, lt-ltb (length out) (length frame) l) (refl, refl)
 
 pub laid-whole : (frame out : List ℕ) → length frame ≤ 1500 → length frame ≤ length out
-    → Came (laid frame out) (Length (length frame)) (frame ++ drop (length frame) out)
+    → Came (laid frame out) (written (length frame)) (frame ++ drop (length frame) out)
 laid-whole frame out h l = rw (le-ltb 1500 (length frame) h, le-ltb (length out) (length frame) l) (refl, refl)
 
 -- the two ways through `put`
@@ -92,7 +98,7 @@ module _ (head body tail rest out : List ℕ) where
       → length head + length body + length tail + length rest ≤ length out
       → one ≡ put head 0 out → two ≡ put body (length head) one → three ≡ put tail (length head + length body) two
       → four ≡ put rest (length head + length body + length tail) three
-      → Came (laid (head ++ (body ++ (tail ++ rest))) out) (Length (length head + length body + length tail + length rest)) four
+      → Came (laid (head ++ (body ++ (tail ++ rest))) out) (written (length head + length body + length tail + length rest)) four
   laid-four one two three four h l e₁ e₂ e₃ e₄ =
       let out₁ = drop (length head) out in
       let out₂ = drop (length body) out₁ in
@@ -105,4 +111,4 @@ module _ (head body tail rest out : List ℕ) where
           e₄ ∙ (rw (p₃, ← length-append head body, ← length-append (head ++ body) tail, put-next ((head ++ body) ++ tail) rest out₃ (simp length-drop (omega arith)))) in
       let n = length-joined in
       let w = laid-whole (head ++ (body ++ (tail ++ rest))) out (omega arith) (omega arith) in
-      (ap Length (sym n) ∙ w .0, p₄ ∙ (simp (drop-drop, append-assoc, n)) ∙ w .1)
+      (ap written (sym n) ∙ w .0, p₄ ∙ (simp (drop-drop, append-assoc, n)) ∙ w .1)

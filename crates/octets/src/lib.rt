@@ -6,12 +6,12 @@ ghost use lib.ListN.{getD, take, drop};
 ghost use Rattle.octets.specs.Number.{number, low};
 ghost use Rattle.octets.specs.Lay.{fits, put, laid, Came};
 
-// What a writer answers.
-pub enum Written {
-    // The frame's length: that many bytes stand at the buffer's start.
-    Length(usize),
-    // A refusal, by paper 01's number. The buffer is unchanged.
-    Refused(u8),
+// What a writer answers: the length of the frame that stands at the buffer's start, and refusal 0; or length 0 and a
+// refusal, by paper 01's number, with the buffer unchanged.
+#[repr(C)]
+pub struct Written {
+    pub length: usize,
+    pub refusal: u8,
 }
 
 fn join16(a: u8, b: u8) -> u16
@@ -94,24 +94,39 @@ pub fn lay_four(head: &[u8], body: &[u8], tail: &[u8], rest: &[u8], out: &mut [u
     let a = head.len();
     let b = a + body.len();
     if 1500 < b {
-        return Written::Refused(2);
+        return Written {
+            length: 0,
+            refusal: 2,
+        };
     }
     let c = b + tail.len();
     if 1500 < c {
-        return Written::Refused(2);
+        return Written {
+            length: 0,
+            refusal: 2,
+        };
     }
     let d = c + rest.len();
     if 1500 < d {
-        return Written::Refused(2);
+        return Written {
+            length: 0,
+            refusal: 2,
+        };
     }
     if out.len() < d {
-        return Written::Refused(9);
+        return Written {
+            length: 0,
+            refusal: 9,
+        };
     }
     put(head, out, 0);
     put(body, out, a);
     put(tail, out, b);
     put(rest, out, c);
-    Written::Length(d)
+    Written {
+        length: d,
+        refusal: 0,
+    }
 }
 
 // Lays a frame's three parts.

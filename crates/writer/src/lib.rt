@@ -106,10 +106,16 @@ pub fn request_program(device: u8, format: u8, program: u8, form: u8, id: &[u8],
     ensures { λ r. ⌜ Came (write (requestProgram device format program form (now (id .entry)) processor (now (info .entry))) (now (out .entry))) r (now (out .exit)) ⌝ }
 {
     if 2 < program {
-        return Written::Refused(4);
+        return Written {
+            length: 0,
+            refusal: 4,
+        };
     }
     if !id_fits(form, id.len()) {
-        return Written::Refused(4);
+        return Written {
+            length: 0,
+            refusal: 4,
+        };
     }
     let head = [8, device, format, program, form];
     let behind = [processor];
@@ -134,7 +140,10 @@ pub fn parameters(number: u8, entries: &[u8], transfer: u32, out: &mut [u8]) -> 
     ensures { λ r. ⌜ Came (write (parameters number (now (entries .entry)) transfer) (now (out .entry))) r (now (out .exit)) ⌝ }
 {
     if !whole(entries::walk(entries, 0)) {
-        return Written::Refused(4);
+        return Written {
+            length: 0,
+            refusal: 4,
+        };
     }
     let t = octets::low32(transfer);
     let head = [20, number];

@@ -13,7 +13,8 @@ cast-cut : tie.Need-cast-cut
 cast-cut c = omega (arith, parts-bound (c .before .before .args .size) (c .before .before .args .r) (c .before .before .pre .0))
 
 cut-requires : tie.Need-cut-requires
-cut-requires c κs = let a = c .before .before .args in
+cut-requires c κs =
+    let a = c .before .before .args in
     (part-begins (a .size) (a .r) (a .index - a .many) (c .before .before .pre .0) (omega arith), c .before .before .pre .2, c .before .before .pre .3)
 
 returns-2 : tie.Need-returns-2

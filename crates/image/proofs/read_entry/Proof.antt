@@ -1,3 +1,4 @@
+-- `image::read_entry` meets its contract: each field is the number that `octets` reads.
 use Prim.Native.Nat.{ℕ, _+_, _-_}
 use mathlib.Core.Path.{_≡_}
 use native.Mathlib.Omega.{arith}
@@ -5,42 +6,32 @@ use borrow.Author.Needs.{needs}
 use Rattle.image.specs.Image.{entryOf}
 use Rattle.image.proofs.read_entry.Statement.{statement}
 use Rattle.image.proofs.read_entry.Tie as tie
-use Rattle.image.proofs.read_entry.Reads as reads
-use Rattle.image.proofs.read_entry.Lts as lts
-use Rattle.octets.proofs.word32.Reads as word32-reads
 
--- src/lib.rt:75:16
 add-next : tie.Need-add-next
 add-next c = search needs
 
--- src/lib.rt:76:13
 sub-e : tie.Need-sub-e
 sub-e c = search needs
 
--- src/lib.rt:76:13
 part-e-start : tie.Need-part-e-start
 part-e-start c = search needs
 
--- src/lib.rt:76:13
 part-e-end : tie.Need-part-e-end
 part-e-end c = search needs
 
--- src/lib.rt:78:18
 word32-requires : tie.Need-word32-requires
 word32-requires c κs = search needs
 
--- src/lib.rt:79:16
 word32-requires-2 : tie.Need-word32-requires-2
 word32-requires-2 c κs = search needs
 
--- src/lib.rt:80:17
 word32-requires-3 : tie.Need-word32-requires-3
 word32-requires-3 c κs = search needs
 
--- src/lib.rt:71:1
 returns : tie.Need-returns
 unfolding entryOf
-returns c = let size : _≡_ {A = ℕ} (c .before .before .before .before .before .args .at + 12 - c .before .before .before .before .before .args .at) 12 = omega arith in
+returns c =
+    let size : _≡_ {A = ℕ} (c .before .before .before .before .before .args .at + 12 - c .before .before .before .before .before .args .at) 12 = omega arith in
     simp (c .before .before .word32 .ensures, c .before .word322 .ensures, c .word323 .ensures, size)
 
 pub read-entry-spec : {M : Type 1} → statement M

@@ -1,44 +1,38 @@
+-- `image::segment` meets its contract.
 use mathlib.Core.Path.{sym, ap, _∙_}
 use borrow.Author.Needs.{needs}
 use Rattle.image.specs.Laws.{found-inside, found-outside, found-refused}
 use Rattle.image.specs.declared.Found.the-variants.{Refused}
 use Rattle.image.proofs.segment.Statement.{statement}
 use Rattle.image.proofs.segment.Tie as tie
-use Rattle.image.proofs.segment.Reads as reads
-use Rattle.image.proofs.segment.Lts as lts
-use Rattle.image.proofs.survey.Reads as survey-reads
 
--- src/lib.rt:252:9
 survey-requires : tie.Need-survey-requires
 survey-requires c κs = search needs
 
--- src/lib.rt:254:9
 returns : tie.Need-returns
-returns c = let a = c .before .before .before .before .args in
+returns c =
+    let a = c .before .before .before .before .args in
     let e = c .before .before .survey .ensures .refused in
     ap Refused e ∙ sym (found-refused (a .file .now) (a .size) (λ z. c .if1 .taken (e ∙ z)) (a .index))
 
--- src/lib.rt:257:9
 returns-2 : tie.Need-returns-2
-returns-2 c = let a = c .before .before .before .before .survey .ensures in
+returns-2 c =
+    let a = c .before .before .before .before .survey .ensures in
     let h = sym (a .refused) ∙ c .before .before .if1 .left in
     sym (found-outside _ _ h _ (rw (a .counted h) at (c .if2 .taken)))
 
--- src/lib.rt:262:13
 cast-t7 : tie.Need-cast-t7
 cast-t7 c = search needs
 
--- src/lib.rt:263:17
 cast-t8 : tie.Need-cast-t8
 cast-t8 c = search needs
 
--- src/lib.rt:264:15
 add-t9 : tie.Need-add-t9
 add-t9 c = search needs
 
--- src/lib.rt:249:1
 returns-3 : tie.Need-returns-3
-returns-3 c = let a = c .before .before .before .before .before .before .before .before .survey .ensures in
+returns-3 c =
+    let a = c .before .before .before .before .before .before .before .before .survey .ensures in
     let h = sym (a .refused) ∙ c .before .before .before .before .before .before .if1 .left in
     let l = rw (a .counted h) at (c .before .before .before .before .if2 .left) in
     rw (a .counted h, a .reached h l) (sym (found-inside _ _ h _ l))

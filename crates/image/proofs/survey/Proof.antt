@@ -14,12 +14,6 @@ use Rattle.image.specs.declared.Tally.{Tally}
 use Rattle.image.proofs.Demand.{demands}
 use Rattle.image.proofs.survey.Statement.{statement}
 use Rattle.image.proofs.survey.Tie as tie
-use Rattle.image.proofs.survey.Reads as reads
-use Rattle.image.proofs.survey.Lts as lts
-use Rattle.image.proofs.read_trailer.Reads as read-trailer-reads
-use Rattle.image.proofs.refused.Reads as refused-reads
-use Rattle.image.proofs.trailer_refusal.Reads as trailer-refusal-reads
-use Rattle.image.proofs.walk.Reads as walk-reads
 
 -- the size of segments is accepted
 module _ (file : List ℕ) (S : ℕ) (l : 1 ≤ S) (m : S ≤ widest) where
@@ -40,55 +34,52 @@ module _ (file : List ℕ) (S : ℕ) (l : 1 ≤ S) (m : S ≤ widest) where
   unfolding demand
   in-entries t i a e w k = rw (← e, le-leb 1 S l, le-leb S widest m, eq-eqb (trailerRefusal (length file) t) 0 w) k
 
--- src/lib.rt:220:9
 refused-requires : tie.Need-refused-requires
 refused-requires c κs = search needs
 
--- src/lib.rt:220:9
 returns : tie.Need-returns
 returns c = refused-tally _ _ _ _ _ _ (c .refused .ensures) (λ z. omega arith) (search demands)
 
--- src/lib.rt:223:9
 refused-requires-2 : tie.Need-refused-requires-2
 refused-requires-2 c κs = search needs
 
--- src/lib.rt:223:9
 returns-2 : tie.Need-returns-2
 returns-2 c = refused-tally _ _ _ _ _ _ (c .refused2 .ensures) (λ z. omega arith) (search demands)
 
--- src/lib.rt:226:9
 refused-requires-3 : tie.Need-refused-requires-3
 refused-requires-3 c κs = search needs
 
--- src/lib.rt:226:9
 returns-3 : tie.Need-returns-3
-returns-3 c = refused-tally _ _ _ _ _ _ (c .refused3 .ensures) (λ z. omega arith) (short _ _ (c .before .before .before .if1 .left) (c .before .before .if2 .left) (c .before .if3 .taken))
+returns-3 c =
+    let a = c .before .before .before .before .before .args in
+    refused-tally _ _ _ _ _ _ (c .refused3 .ensures) (λ z. omega arith)
+    (short (a .file .now) (a .size) (c .before .before .before .if1 .left) (c .before .before .if2 .left) (c .before .if3 .taken))
 
--- src/lib.rt:228:9
 read-trailer-requires : tie.Need-read-trailer-requires
 read-trailer-requires c κs = search needs
 
--- src/lib.rt:229:9
 trailer-refusal-requires : tie.Need-trailer-refusal-requires
 trailer-refusal-requires c κs = search needs
 
--- src/lib.rt:231:9
 refused-requires-4 : tie.Need-refused-requires-4
 refused-requires-4 c κs = search needs
 
--- src/lib.rt:231:9
 returns-4 : tie.Need-returns-4
-returns-4 c = refused-tally _ _ _ _ _ _ (c .refused4 .ensures) (c .before .if4 .taken)
-    (in-trailer _ _ (c .before .before .before .before .before .before .if1 .left) (c .before .before .before .before .before .if2 .left) _ _ (c .before .before .before .read-trailer .ensures) (c .before .before .trailer-refusal .ensures) (c .before .if4 .taken))
+returns-4 c =
+    let a = c .before .before .before .before .before .before .before .before .args in
+    refused-tally _ _ _ _ _ _ (c .refused4 .ensures) (c .before .if4 .taken)
+    (in-trailer (a .file .now) (a .size) (c .before .before .before .before .before .before .if1 .left) (c .before .before .before .before .before .if2 .left) _ _ (c .before .before .before .read-trailer .ensures) (c .before .before .trailer-refusal .ensures) (c .before .if4 .taken))
 
--- src/lib.rt:233:5
 walk-requires : tie.Need-walk-requires
-walk-requires c κs = let p = placed (length (c .before .before .before .before .before .before .before .args .file .now)) (c .before .before .read-trailer .result) (sym (c .before .trailer-refusal .ensures) ∙ c .if4 .left) in
+walk-requires c κs =
+    let t = c .before .before .read-trailer .result in
+    let p = placed (length (c .before .before .before .before .before .before .before .args .file .now)) t (sym (c .before .trailer-refusal .ensures) ∙ c .if4 .left) in
     (omega arith, c .before .before .before .before .before .if1 .left)
 
--- src/lib.rt:216:1
 returns-5 : tie.Need-returns-5
-returns-5 c = in-entries _ _ (c .before .before .before .before .before .before .if1 .left) (c .before .before .before .before .before .if2 .left) _ _ _ (c .before .before .before .read-trailer .ensures) (sym (c .before .before .trailer-refusal .ensures) ∙ c .before .if4 .left) (c .walk .ensures)
+returns-5 c =
+    let a = c .before .before .before .before .before .before .before .before .args in
+    in-entries (a .file .now) (a .size) (c .before .before .before .before .before .before .if1 .left) (c .before .before .before .before .before .if2 .left) _ _ _ (c .before .before .before .read-trailer .ensures) (sym (c .before .before .trailer-refusal .ensures) ∙ c .before .if4 .left) (c .walk .ensures)
 
 pub survey-spec : {M : Type 1} → statement M
 survey-spec =

@@ -1,59 +1,45 @@
+-- `image::trailer_refusal` meets its contract: the code asks what the definition asks, in its order.
 use borrow.Author.Needs.{needs}
 use Rattle.image.proofs.Demand.{demands}
 use Rattle.image.proofs.trailer_refusal.Statement.{statement}
 use Rattle.image.proofs.trailer_refusal.Tie as tie
-use Rattle.image.proofs.trailer_refusal.Reads as reads
-use Rattle.image.proofs.trailer_refusal.Lts as lts
 
--- src/lib.rt:89:18
 cast-length : tie.Need-cast-length
 cast-length c = search needs
 
--- src/lib.rt:90:17
 cast-total : tie.Need-cast-total
 cast-total c = search needs
 
--- src/lib.rt:90:46
 cast-total-2 : tie.Need-cast-total-2
 cast-total-2 c = search needs
 
--- src/lib.rt:90:40
 mul-total : tie.Need-mul-total
 mul-total c = search needs
 
--- src/lib.rt:90:17
 add-total : tie.Need-add-total
 add-total c = search needs
 
--- src/lib.rt:90:17
 add-total-2 : tie.Need-add-total-2
 add-total-2 c = search needs
 
--- src/lib.rt:92:9
 returns : tie.Need-returns
 returns c = search demands depth 9
 
--- src/lib.rt:95:9
 returns-2 : tie.Need-returns-2
 returns-2 c = search demands depth 9
 
--- src/lib.rt:98:9
 returns-3 : tie.Need-returns-3
 returns-3 c = search demands depth 9
 
--- src/lib.rt:101:9
 returns-4 : tie.Need-returns-4
 returns-4 c = search demands depth 9
 
--- src/lib.rt:104:9
 returns-5 : tie.Need-returns-5
 returns-5 c = search demands depth 9
 
--- src/lib.rt:107:9
 returns-6 : tie.Need-returns-6
 returns-6 c = search demands depth 9
 
--- src/lib.rt:85:1
 returns-7 : tie.Need-returns-7
 returns-7 c = search demands depth 9
 

@@ -97,13 +97,14 @@ loop-again c =
     let turn-start = passed .before .before .before in
     let loop = turn-start .before .loop in
     let f = fits passed in
-    let l = few (c .before .before .before) in
-    (omega arith,
-    omega arith,
-    f .below,
-    turn _ _ _ _ _ _ (loop .at) (loop .left) _ _ _ (passed .before .before .read-entry .ensures) (turn-start .loop-test .taken) (loop .inv .3) _
-    (sym (passed .before .entry-refusal .ensures) ∙ passed .if1 .left) (omega (arith, c .before .before .before .parts .ensures)) _
-    (c .before .before .reached .ensures))
+    let l = few (c .before .before .before) in (
+      omega arith,
+      omega arith,
+      f .below,
+      turn _ _ _ _ _ _ (loop .at) (loop .left) _ _ _ (passed .before .before .read-entry .ensures) (turn-start .loop-test .taken) (loop .inv .3) _
+          (sym (passed .before .entry-refusal .ensures) ∙ passed .if1 .left) (omega (arith, c .before .before .before .parts .ensures)) _
+          (c .before .before .reached .ensures),
+    )
 
 returns-2 : tie.Need-returns-2 Inv-loop μ-loop
 returns-2 c = done _ _ _ _ _ _ _ _ _ _ (c .loop-test .left) (c .before .loop .inv .3)

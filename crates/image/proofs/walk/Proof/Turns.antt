@@ -60,7 +60,7 @@ module _ (file : List ℕ) (directory S i end m at left : ℕ) (r seen : Region)
       record {
         refusal = rw (eq-eqb (entryRefusal directory end r) 0 f) at (apart .refusal);
         count = omega (arith, apart .count);
-        reach = rw s (past S i m n r seen later g ∙ apart .reach)
+        reach = rw s (past S i m n r seen later g ∙ apart .reach);
       }
 
   -- it is refused
@@ -77,6 +77,6 @@ done file directory S i end m at zero seen all l k =
     record {
       refused = k .refusal;
       counted = λ z. omega (arith, k .count);
-      reached = λ z h. rw (lt-ltb i m (omega (arith, k .count))) at (k .reach)
+      reached = λ z h. rw (lt-ltb i m (omega (arith, k .count))) at (k .reach);
     }
 done file directory S i end m at (suc left) seen all l k = absurd (omega arith)
