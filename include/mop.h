@@ -85,7 +85,7 @@ mop_frame mop_read(const uint8_t *frame, size_t frame_length);
  * then 9 for a buffer shorter than the frame. The frame stands at the
  * buffer's start, and the bytes behind it stay. */
 typedef struct mop_written {
-    uint64_t length;
+    size_t length;
     uint8_t refusal;
 } mop_written;
 
