@@ -28,11 +28,11 @@ fn main() {
             vec![parameters(&names_and_times())],
         ),
         (
-            "read, code 20 of 1,500 bytes, names",
+            "read, code 20 filled with names",
             vec![parameters(&filling(&name(1, 16)))],
         ),
         (
-            "read, code 20 of 1,500 bytes, times",
+            "read, code 20 filled with times",
             vec![parameters(&filling(&time()))],
         ),
     ] {

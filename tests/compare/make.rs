@@ -79,6 +79,18 @@ pub fn entries(random: &mut Random, room: usize) -> Vec<Vec<u8>> {
     entries
 }
 
+/// Names that have exactly `length` bytes together; not for a length of 1.
+pub fn filling(random: &mut Random, length: usize) -> Vec<u8> {
+    let mut entries = Vec::new();
+    let mut left = length;
+    while left > 0 {
+        let next = if left == 19 { 17 } else { left.min(18) };
+        entries.extend(name(random, next - 2));
+        left -= next;
+    }
+    entries
+}
+
 /// One entry of any type.
 pub fn entry(random: &mut Random) -> Vec<u8> {
     match random.below(3) {

@@ -37,6 +37,7 @@ impl Compare {
         self.entry_types();
         self.entry_lengths();
         self.swallowing_entries();
+        self.long_parameters();
         self.times();
         self.cut_times();
         self.offsets();
@@ -80,15 +81,12 @@ impl Compare {
         ] {
             self.read("set cases", &frame, Some(wanted));
         }
-        if frame::read(&[10, 1, 0])
-            != Ok(Frame::RequestLoad {
-                number: 1,
-                error: 0,
-            })
-        {
+        let (number, error) = (1, 0);
+        let wanted = Ok(Frame::RequestLoad { number, error });
+        let seen = frame::read(&[10, 1, 0]);
+        if seen != wanted {
             let what = format_args!("plain reader, K2");
-            self.tally
-                .differ(what, Hex(&[10, 1, 0]), "other fields", "number 1, error 0");
+            self.tally.differ(what, Hex(&[10, 1, 0]), seen, wanted);
         }
     }
 
@@ -259,6 +257,20 @@ impl Compare {
                     frame.extend(self.random.bytes(length - present));
                     self.read("entries that swallow the end", &frame, Some(1));
                 }
+            }
+        }
+    }
+
+    /// Code 20 about its greatest length, with good entries and a bad one: the
+    /// excess is found before the bad entry.
+    fn long_parameters(&mut self) {
+        for length in [1498, 1499, 1500, 1501, 1502, 2000] {
+            let entries = make::filling(&mut self.random, length - 7);
+            let mut frame = make::parameters(&mut self.random, &entries);
+            for (kind, answer) in [(1, 0), (6, 4)] {
+                frame[2] = kind;
+                let wanted = if length > 1500 { 2 } else { answer };
+                self.read("code 20 about 1,500 bytes", &frame, Some(wanted));
             }
         }
     }

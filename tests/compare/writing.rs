@@ -80,11 +80,9 @@ impl Compare {
     fn any_arguments(&mut self) {
         for _ in 0..3000 {
             for code in [0, 1, 2, 3, 4, 8, 10, 12, 14, 20, 24, 26] {
-                let data = self.any_data();
-                let data = if code == 20 && self.random.once_in(2) {
-                    make::entries(&mut self.random, 200).concat()
-                } else {
-                    data
+                let data = match code == 20 && self.random.once_in(2) {
+                    true => make::entries(&mut self.random, 200).concat(),
+                    false => self.any_data(),
                 };
                 let id = self.any_id();
                 let frame = self.any_fields(code, &id, &data);
@@ -272,12 +270,8 @@ impl Compare {
 
     /// Entries that fill a frame to about 1,500 bytes: 4, then 2, then 9.
     fn long_entry_strings(&mut self) {
-        for filling in 1480..1520 {
-            let mut entries = Vec::new();
-            while entries.len() < filling {
-                let length = (filling - entries.len()).saturating_sub(2).min(16);
-                entries.extend(make::with_head(1, self.random.bytes(length)));
-            }
+        for length in 1480..1520 {
+            let mut entries = make::filling(&mut self.random, length);
             self.entry_string("entries about 1,500 bytes", &entries, true);
             entries.push(5);
             self.entry_string("entries about 1,500 bytes", &entries, false);

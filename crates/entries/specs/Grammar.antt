@@ -11,7 +11,8 @@ use lib.ListN.{length}
 use Rattle.entries.specs.declared.Place.{Place}
 use Rattle.entries.specs.declared.Place.the-variants.{Kind, Size, Value, Time, Transfer, Outside, Excess}
 use Rattle.entries.specs.Entries.{listed, field, more, next, walk}
-use Rattle.entries.specs.Laws.{walk-value, walk-ended, pick-has, Marked, marked}
+use Rattle.octets.specs.Cases.{by-cases}
+use Rattle.entries.specs.Laws.{walk-value, walk-ended, Marked, marked}
 
 -- bytes of a host time from field k on, each one that its field may be, after the byte before it
 abbrev pub Fields : ℕ → ℕ → List ℕ → Type 0
@@ -32,11 +33,11 @@ pub data Entries : List ℕ → Type 0 where
 known : (kind n : ℕ) → listed kind n ≡ true → (1 ≤ kind) × (kind ≤ 5)
 known kind n =
     let P : Bool → Type 0 = λ b. b ≡ true → (1 ≤ kind) × (kind ≤ 5) in
-    pick-has P (eqb kind 1) (λ e _. omega (arith, eqb-true kind 1 e)) (λ _.
-    pick-has P (eqb kind 2) (λ e _. omega (arith, eqb-true kind 2 e)) (λ _.
-    pick-has P (eqb kind 3) (λ e _. omega (arith, eqb-true kind 3 e)) (λ _.
-    pick-has P (eqb kind 4) (λ e _. omega (arith, eqb-true kind 4 e)) (λ _.
-    pick-has P (eqb kind 5) (λ e _. omega (arith, eqb-true kind 5 e)) (λ _ no. absurd (false≢true no))))))
+    by-cases P (eqb kind 1) (λ e _. omega (arith, eqb-true kind 1 e)) (λ _.
+    by-cases P (eqb kind 2) (λ e _. omega (arith, eqb-true kind 2 e)) (λ _.
+    by-cases P (eqb kind 3) (λ e _. omega (arith, eqb-true kind 3 e)) (λ _.
+    by-cases P (eqb kind 4) (λ e _. omega (arith, eqb-true kind 4 e)) (λ _.
+    by-cases P (eqb kind 5) (λ e _. omega (arith, eqb-true kind 5 e)) (λ _ no. absurd (false≢true no))))))
 
 ten : (kind n : ℕ) → listed kind n ≡ true → kind ≡ 5 → n ≡ 10
 ten kind n l is5 = eqb-true n 10 (rw is5 at l)
@@ -74,7 +75,7 @@ walk-time k before (x ∷ (y ∷ value)) rest low full f =
 
 walk-content : (kind : ℕ) (value rest : List ℕ) → listed kind (length value) ≡ true → (kind ≡ 5 → Fields 0 0 value) → walk (pick (eqb kind 5) (Time 0 0) (more (length value))) (value ++ rest) ≡ walk Kind rest
 walk-content kind value rest l f =
-    pick-has
+    by-cases
     (λ (p : Place). walk p (value ++ rest) ≡ walk Kind rest)
     (eqb kind 5)
     (λ e.
@@ -120,7 +121,7 @@ Rest Excess xs = ⊥
 
 rest-more : (n : ℕ) (xs : List ℕ) → Rest (more n) xs → Cut (λ (v : List ℕ). length v ≡ n) xs
 rest-more n xs =
-    pick-has
+    by-cases
     (λ (p : Place). Rest p xs → Cut (λ (v : List ℕ). length v ≡ n) xs)
     (eqb n 0)
     (λ e r. record { value = []; rest = xs; whole = refl; so = sym (eqb-true n 0 e); entries = r })
@@ -132,7 +133,7 @@ Back p x xs q = Rest q xs → Rest p (x ∷ xs)
 
 back-size : (kind n : ℕ) (xs : List ℕ) → listed kind n ≡ true → Back (Size kind) n xs (pick (eqb kind 5) (Time 0 0) (more n))
 back-size kind n xs l =
-    pick-has
+    by-cases
     (Back (Size kind) n xs)
     (eqb kind 5)
     (λ e r. headed kind n r (omega (arith, ten kind n l (eqb-true kind 5 e))) l (λ _. r .so .1))
@@ -140,7 +141,7 @@ back-size kind n xs l =
 
 back-time : (k before x : ℕ) (xs : List ℕ) → field k before x ≡ true → Back (Time k before) x xs (pick (eqb k 9) Kind (Time (k + 1) x))
 back-time k before x xs f =
-    pick-has
+    by-cases
     (Back (Time k before) x xs)
     (eqb k 9)
     (λ e r. record { value = x ∷ []; rest = xs; whole = refl; so = (omega (arith, eqb-true k 9 e), (f, tt)); entries = r })
@@ -150,11 +151,11 @@ back : (p : Place) (x : ℕ) (xs : List ℕ) → Back p x xs (next p x)
 unfolding next
 back Kind x xs =
     let P = Back Kind x xs in
-    pick-has P (eqb x 0) (λ _ r. absurd r) (λ _. pick-has P (leb x 5) (λ _ r. r) (λ _ r. absurd r))
-back (Size kind) n xs = pick-has (Back (Size kind) n xs) (listed kind n) (back-size kind n xs) (λ _ r. absurd r)
+    by-cases P (eqb x 0) (λ _ r. absurd r) (λ _. by-cases P (leb x 5) (λ _ r. r) (λ _ r. absurd r))
+back (Size kind) n xs = by-cases (Back (Size kind) n xs) (listed kind n) (back-size kind n xs) (λ _ r. absurd r)
 back (Value n) x xs = λ r some. let c = rest-more (n - 1) xs r in longer c (omega (arith, c .so))
-back (Time k before) x xs = pick-has (Back (Time k before) x xs) (field k before x) (back-time k before x xs) (λ _ r. absurd r)
-back (Transfer n) x xs = pick-has (Back (Transfer n) x xs) (eqb n 0) (λ _ r. r) (λ _ r. r)
+back (Time k before) x xs = by-cases (Back (Time k before) x xs) (field k before x) (back-time k before x xs) (λ _ r. absurd r)
+back (Transfer n) x xs = by-cases (Back (Transfer n) x xs) (eqb n 0) (λ _ r. r) (λ _ r. r)
 back Outside x xs = λ r. r
 back Excess x xs = λ r. r
 

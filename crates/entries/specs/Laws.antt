@@ -9,6 +9,7 @@ use borrow.Author.Tests.{eqb-true, eqb-false, ne-eqb}
 use lib.Dec.{eqb, leb, eqb·suc-zero}
 use lib.ListN.{length, take, drop, length-append, take-append-drop}
 use lib.Seq.{length-take-le, take-at, drop-append-add}
+use Rattle.octets.specs.Cases.{by-cases}
 use Rattle.entries.specs.declared.Place.{Place}
 use Rattle.entries.specs.declared.Place.the-variants.{Kind, Size, Value, Time, Transfer, Outside, Excess}
 use Rattle.entries.specs.Entries.{listed, field, more, next, walk}
@@ -62,11 +63,6 @@ unfolding walk next
 walk-ended e t h four = rw (walk-append Kind e (0 ∷ t), h, ← four) (walk-transfer t)
 
 -- ---- what a byte leads to
--- a choice has what both of its sides have, each under its test
-pub pick-has : {A : Type 0} (P : A → Type 0) {a b : A} (t : Bool) → (t ≡ true → P a) → (t ≡ false → P b) → P (pick t a b)
-pick-has P true f g = f refl
-pick-has P false f g = g refl
-
 -- what the place after a byte tells: of a value there is a byte to come; the count of the transfer address fell by one, or began at the end mark
 abbrev Led : Place → ℕ → Place → Type 0
 Led p b Kind = Unit {0}
@@ -78,22 +74,22 @@ Led p b Outside = Unit {0}
 Led p b Excess = Unit {0}
 
 led-more : (p : Place) (b n : ℕ) → Led p b (more n)
-led-more p b n = pick-has (Led p b) (eqb n 0) (λ _. tt) (λ e. omega (arith, eqb-false n 0 e))
+led-more p b n = by-cases (Led p b) (eqb n 0) (λ _. tt) (λ e. omega (arith, eqb-false n 0 e))
 
 led : (p : Place) (b : ℕ) → Led p b (next p b)
 unfolding next
 led Kind b =
     let P = Led Kind b in
-    pick-has P (eqb b 0) (λ e. inr (refl, eqb-true b 0 e, refl)) (λ _. pick-has P (leb b 5) (λ _. tt) (λ _. tt))
+    by-cases P (eqb b 0) (λ e. inr (refl, eqb-true b 0 e, refl)) (λ _. by-cases P (leb b 5) (λ _. tt) (λ _. tt))
 led (Size kind) n =
     let P = Led (Size kind) n in
-    pick-has P (listed kind n) (λ _. pick-has P (eqb kind 5) (λ _. tt) (λ _. led-more (Size kind) n n)) (λ _. tt)
+    by-cases P (listed kind n) (λ _. by-cases P (eqb kind 5) (λ _. tt) (λ _. led-more (Size kind) n n)) (λ _. tt)
 led (Value n) b = led-more (Value n) b (n - 1)
 led (Time k before) b =
     let P = Led (Time k before) b in
-    pick-has P (field k before b) (λ _. pick-has P (eqb k 9) (λ _. tt) (λ _. tt)) (λ _. tt)
+    by-cases P (field k before b) (λ _. by-cases P (eqb k 9) (λ _. tt) (λ _. tt)) (λ _. tt)
 led (Transfer n) b =
-    pick-has (Led (Transfer n) b) (eqb n 0) (λ _. tt) (λ e. inl (ap Transfer (omega (arith, eqb-false n 0 e))))
+    by-cases (Led (Transfer n) b) (eqb n 0) (λ _. tt) (λ e. inl (ap Transfer (omega (arith, eqb-false n 0 e))))
 led Outside b = tt
 led Excess b = tt
 

@@ -1,12 +1,11 @@
 -- Image files (paper 01, 'Image file'): the fields, the refusals in their order, the segments, and what `check` and `segment` answer.
 -- A `Trailer`, a `Region` and the two answers are the code's own types.
 use Prim.Native.Nat.{ℕ, zero, suc, _+_, _-_, _*_, _/_, min}
-use mathlib.Core.Bool.{Bool, true, false}
+use mathlib.Core.Bool.{Bool, true, false, cond as pick}
 use mathlib.Core.List.{List, [], _∷_}
 use lib.ListN.{length, take, drop}
 use lib.Dec.{eqb, leb, ltb}
 use Rattle.octets.specs.Number.{number}
-use Rattle.octets.specs.Lay.{pick}
 use Rattle.image.specs.declared.Trailer.{Trailer}
 use Rattle.image.specs.declared.Region.{Region}
 use Rattle.image.specs.declared.Checked.{Checked}

@@ -1,6 +1,6 @@
 -- Laws of image files: what an accepted file's regions and segments are, and what is answered.
 use Prim.Native.Nat.{ℕ, zero, suc, _+_, _-_, _*_, _^_, _≤_, _<_}
-use mathlib.Core.Bool.{Bool, true, false}
+use mathlib.Core.Bool.{Bool, true, false, cond as pick}
 use mathlib.Core.Path.{_≡_, refl, ap}
 use mathlib.Core.List.{List, [], _∷_}
 use native.Mathlib.Nat.{zero-add, add-assoc, add-sub-cancel-left, lt-of-lt-of-le, pow-le-pow-right}
@@ -9,8 +9,7 @@ use lib.Dec.{eqb, ltb}
 use lib.ListN.{length, getD, take, drop, length-take, length-drop}
 use lib.Seq.{getD-take, getD-drop, drop-drop}
 use borrow.Author.Tests.{ltb-true, ltb-false, leb-true, eqb-true, eqb-false, lt-ltb, le-ltb, eq-eqb, ne-eqb}
-use Rattle.octets.specs.Lay.{pick}
-use Rattle.octets.specs.Number.{Octets, number-bound}
+use Rattle.octets.specs.Number.{Octets, part-bound}
 use Rattle.image.specs.Image.{longest, most, addresses, widest, word, trailerOf, trailer, entryAt, entries, regions, ending, bytes, nowhere}
 use Rattle.image.specs.Image.{demand, first, trailerRefusal, entryRefusal, entriesRefusal, cutRefusal}
 use Rattle.image.specs.Image.{parts, cut, many, segment, segmentOf, checked, foundAs, found}
@@ -261,17 +260,6 @@ agrees file S count transfer n h = go (eqb (cutRefusal file S) 0) refl h
     go false e g = let z : _≡_ {A = ℕ} 0 1 = cc in absurd (omega arith)
 
 -- ---- a file of bytes
-pub octets-part : (n at : ℕ) (file : List ℕ) → Octets file → Octets (take n (drop at file))
-octets-part n at file o k l =
-    let inside : (k < n) × (at + k < length file) =
-    omega (arith, length-take n (drop at file), length-drop at file) in
-    rw (getD-take n (drop at file) k 0 (inside .0), getD-drop) (o (at + k) (inside .1))
-
-pub word-bound : (n at : ℕ) (file : List ℕ) → Octets file → word n file at < 256 ^ n
-word-bound n at file o =
-    lt-of-lt-of-le (number-bound (take n (drop at file)) (octets-part n at file o))
-    (pow-le-pow-right (omega arith) (omega (arith, length-take n (drop at file))))
-
 pub transfer-bound : (file : List ℕ) → Octets file → trailer file .transfer < addresses
 unfolding trailerOf
-transfer-bound file o = rw drop-drop (word-bound 4 (length file - 16 + 8) file o)
+transfer-bound file o = rw drop-drop (part-bound 4 (length file - 16 + 8) file o)

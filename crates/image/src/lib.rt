@@ -3,7 +3,7 @@ ghost use mathlib.Core.Path.{_≡_};
 ghost use Prim.Native.Nat.{_+_, _-_, _*_, _<_, _≤_, min};
 ghost use lib.ListN.{length};
 ghost use lib.Dec.{ltb};
-ghost use Rattle.octets.specs.Lay.{pick};
+ghost use mathlib.Core.Bool.{cond as pick};
 ghost use Rattle.image.specs.Image.{addresses, trailer, entryAt, regions, ending, nowhere};
 ghost use Rattle.image.specs.Image.{trailerRefusal, entryRefusal, cutRefusal, parts, cut, checked, found};
 ghost use Rattle.image.specs.Walk.{Tallied, Walked};

@@ -14,6 +14,7 @@ use lib.Dec.{eqb, leb, ltb}
 use borrow.Author.Tests.{eq-eqb, ne-eqb, lt-ltb, le-ltb, eqb-true, ltb-false, leb-true}
 use Rattle.octets.specs.Number.{number, low, Octets, octets-part, length-low, part-bound, number-low, low-number}
 use Rattle.octets.specs.declared.Written.{Written}
+use Rattle.octets.specs.Cases.{by-cases}
 use Rattle.octets.specs.Lay.{Output, written, refuse, laid, Came}
 use Rattle.entries.specs.declared.Place.{Place}
 use Rattle.entries.specs.declared.Place.the-variants.{Kind, Size, Value, Time, Transfer, Outside, Excess}
@@ -144,10 +145,6 @@ abbrev pub Back : List ℕ → Reading → Type 0
 Back s (refused n) = Unit {0}
 Back s (message m) = (layout m ≡ s) × (listed m ≡ true) × Sized m
 
-by-cases : {A : Type 0} (P : A → Type 0) (b : Bool) (x y : A) → (b ≡ true → P x) → (b ≡ false → P y) → P (cond b x y)
-by-cases P true x y f g = f refl
-by-cases P false x y f g = g refl
-
 module _ (s : List ℕ) (o : Octets s) where
   bound : (n j : ℕ) → word n s j < 256 ^ n
   bound n j = part-bound n j s o
@@ -171,7 +168,7 @@ module _ (s : List ℕ) (o : Octets s) where
       → Back s (withId n s)
   unfolding layout
   back-withId n e h p f q =
-      by-cases (Back s) (ltb (length s) (6 + n)) _ _ (λ _. tt) (λ b.
+      by-cases (Back s) (ltb (length s) (6 + n)) (λ _. tt) (λ b.
       let l : 6 + n ≤ length s = ltb-false (length s) (6 + n) b in
       let next : 6 + n ≡ 5 + n + 1 = omega arith in
       let size : length (take n (drop 5 s)) ≡ n = simp (length-take, length-drop) (omega arith) in
@@ -180,8 +177,7 @@ module _ (s : List ℕ) (o : Octets s) where
 
   back-requestProgram : byte s 0 ≡ 8 → 6 ≤ length s → Back s (requestProgramFields s)
   back-requestProgram e h =
-      by-cases (Back s) (programListed (byte s 3)) _ _
-      (λ p. by-cases (Back s) (formListed (byte s 4)) _ _ (λ f. back-withId (idLength (byte s 4)) e h p f refl) (λ _. tt)) (λ _. tt)
+      by-cases (Back s) (programListed (byte s 3)) (λ p. by-cases (Back s) (formListed (byte s 4)) (λ f. back-withId (idLength (byte s 4)) e h p f refl) (λ _. tt)) (λ _. tt)
 
   back-requestLoad : byte s 0 ≡ 10 → length s ≡ 3 → Back s (requestLoadFields s)
   unfolding layout
@@ -219,14 +215,14 @@ module _ (s : List ℕ) (o : Octets s) where
   accepted-end (Size kind) e = absurd (omega arith)
   accepted-end (Value n) e = absurd (omega arith)
   accepted-end (Time k before) e = absurd (omega arith)
-  accepted-end (Transfer n) e = ap Transfer (by-cases (λ (x : ℕ). x ≡ 0 → n ≡ 0) (eqb n 0) 0 1 (λ b _. eqb-true n 0 b) (λ b x. absurd (omega arith)) e)
+  accepted-end (Transfer n) e = ap Transfer (by-cases (λ (x : ℕ). x ≡ 0 → n ≡ 0) (eqb n 0) (λ b _. eqb-true n 0 b) (λ b x. absurd (omega arith)) e)
   accepted-end Outside e = absurd (omega arith)
   accepted-end Excess e = absurd (omega arith)
 
   back-parameters : byte s 0 ≡ 20 → 7 ≤ length s → Back s (parametersFields s)
   unfolding layout
   back-parameters e h =
-      by-cases (Back s) (eqb (ended (walk Kind (drop 2 s))) 0) _ _ (λ b.
+      by-cases (Back s) (eqb (ended (walk Kind (drop 2 s))) 0) (λ b.
       let a = accepted (drop 2 s) (accepted-end (walk Kind (drop 2 s)) (eqb-true (ended (walk Kind (drop 2 s))) 0 b)) in
       let size : length (drop 2 s) - 5 ≡ length s - 7 = rw length-drop (omega arith) in
       let last : 2 + (length (drop 2 s) - 4) ≡ length s - 4 = rw length-drop (omega arith) in
@@ -240,27 +236,27 @@ module _ (s : List ℕ) (o : Octets s) where
   back-fields : (code : ℕ) → byte s 0 ≡ code → least code ≤ length s → length s ≤ most code → Back s (fields code s)
   unfolding fields least leastIn layout
   back-fields code e l m =
-      by-cases (Back s) (eqb code 0) _ _ (λ b. let z = eqb-true code 0 b in back-memoryLoadTransfer (e ∙ z) (rw z at l)) (λ _.
-      by-cases (Back s) (eqb code 2) _ _ (λ b. let z = eqb-true code 2 b in back-memoryLoad (e ∙ z) (rw z at l)) (λ _.
-      by-cases (Back s) (eqb code 8) _ _ (λ b. let z = eqb-true code 8 b in back-requestProgram (e ∙ z) (rw z at l)) (λ _.
-      by-cases (Back s) (eqb code 10) _ _ (λ b. let z = eqb-true code 10 b in back-requestLoad (e ∙ z) (le-antisymm (rw z at m) (rw z at l))) (λ _.
-      by-cases (Back s) (eqb code 4) _ _ (λ b. let z = eqb-true code 4 b in back-requestDump (e ∙ z) (le-antisymm (rw z at m) (rw z at l))) (λ _.
-      by-cases (Back s) (eqb code 12) _ _ (λ b. let z = eqb-true code 12 b in back-requestDumpService (e ∙ z) (rw z at l)) (λ _.
-      by-cases (Back s) (eqb code 14) _ _ (λ b. let z = eqb-true code 14 b in back-dumpData (e ∙ z) (rw z at l)) (λ _.
-      by-cases (Back s) (eqb code 1) _ _ (λ b. let z = eqb-true code 1 b in back-single dumpComplete 1 refl refl tt (e ∙ z) (le-antisymm (rw z at m) (rw z at l))) (λ _.
-      by-cases (Back s) (eqb code 3) _ _ (λ b. let z = eqb-true code 3 b in back-single volunteer 3 refl refl tt (e ∙ z) (le-antisymm (rw z at m) (rw z at l))) (λ _.
-      by-cases (Back s) (eqb code 20) _ _ (λ b. let z = eqb-true code 20 b in back-parameters (e ∙ z) (rw z at l)) (λ _.
-      by-cases (Back s) (eqb code 24) _ _ (λ b. let z = eqb-true code 24 b in back-loopData (e ∙ z) (rw z at l)) (λ _.
-      by-cases (Back s) (eqb code 26) _ _ (λ b. let z = eqb-true code 26 b in back-loopedData (e ∙ z) (rw z at l)) (λ _. tt))))))))))))
+      by-cases (Back s) (eqb code 0) (λ b. let z = eqb-true code 0 b in back-memoryLoadTransfer (e ∙ z) (rw z at l)) (λ _.
+      by-cases (Back s) (eqb code 2) (λ b. let z = eqb-true code 2 b in back-memoryLoad (e ∙ z) (rw z at l)) (λ _.
+      by-cases (Back s) (eqb code 8) (λ b. let z = eqb-true code 8 b in back-requestProgram (e ∙ z) (rw z at l)) (λ _.
+      by-cases (Back s) (eqb code 10) (λ b. let z = eqb-true code 10 b in back-requestLoad (e ∙ z) (le-antisymm (rw z at m) (rw z at l))) (λ _.
+      by-cases (Back s) (eqb code 4) (λ b. let z = eqb-true code 4 b in back-requestDump (e ∙ z) (le-antisymm (rw z at m) (rw z at l))) (λ _.
+      by-cases (Back s) (eqb code 12) (λ b. let z = eqb-true code 12 b in back-requestDumpService (e ∙ z) (rw z at l)) (λ _.
+      by-cases (Back s) (eqb code 14) (λ b. let z = eqb-true code 14 b in back-dumpData (e ∙ z) (rw z at l)) (λ _.
+      by-cases (Back s) (eqb code 1) (λ b. let z = eqb-true code 1 b in back-single dumpComplete 1 refl refl tt (e ∙ z) (le-antisymm (rw z at m) (rw z at l))) (λ _.
+      by-cases (Back s) (eqb code 3) (λ b. let z = eqb-true code 3 b in back-single volunteer 3 refl refl tt (e ∙ z) (le-antisymm (rw z at m) (rw z at l))) (λ _.
+      by-cases (Back s) (eqb code 20) (λ b. let z = eqb-true code 20 b in back-parameters (e ∙ z) (rw z at l)) (λ _.
+      by-cases (Back s) (eqb code 24) (λ b. let z = eqb-true code 24 b in back-loopData (e ∙ z) (rw z at l)) (λ _.
+      by-cases (Back s) (eqb code 26) (λ b. let z = eqb-true code 26 b in back-loopedData (e ∙ z) (rw z at l)) (λ _. tt))))))))))))
 
   back : Back s (read s)
   unfolding read
   back =
       let code = byte s 0 in
-      by-cases (Back s) (eqb (length s) 0) _ _ (λ _. tt) (λ _.
-      by-cases (Back s) (ltb 0 (least code)) _ _ (λ _.
-      by-cases (Back s) (ltb (length s) (least code)) _ _ (λ _. tt) (λ l.
-      by-cases (Back s) (ltb (most code) (length s)) _ _ (λ _. tt) (λ m.
+      by-cases (Back s) (eqb (length s) 0) (λ _. tt) (λ _.
+      by-cases (Back s) (ltb 0 (least code)) (λ _.
+      by-cases (Back s) (ltb (length s) (least code)) (λ _. tt) (λ l.
+      by-cases (Back s) (ltb (most code) (length s)) (λ _. tt) (λ m.
       back-fields code refl (ltb-false (length s) (least code) l) (ltb-false (most code) (length s) m)))) (λ _. tt))
 
   pub written-read : (m : Message) → read s ≡ message m → (layout m ≡ s) × (listed m ≡ true) × Sized m
@@ -276,11 +272,11 @@ unfolding leastIn atMost
 least-small n [] code t = omega arith
 least-small n (row ∷ rest) code t =
     let c = both (leb (row .length) n) (atMost n rest) t in
-    by-cases (λ (x : ℕ). x ≤ n) (eqb code (row .code)) (row .length) (leastIn rest code) (λ _. leb-true (row .length) n (c .0)) (λ _. least-small n rest code (c .1))
+    by-cases (λ (x : ℕ). x ≤ n) (eqb code (row .code)) (λ _. leb-true (row .length) n (c .0)) (λ _. least-small n rest code (c .1))
 
 most-small : (code : ℕ) → most code ≤ 1500
 unfolding least atMost
-most-small code = by-cases (λ (x : ℕ). x ≤ 1500) (exact code) (least code) 1500 (λ _. least-small 1500 rows code refl) (λ _. omega arith)
+most-small code = by-cases (λ (x : ℕ). x ≤ 1500) (exact code) (λ _. least-small 1500 rows code refl) (λ _. omega arith)
 
 Short : List ℕ → Reading → Type 0
 Short s (refused n) = Unit {0}
@@ -297,10 +293,10 @@ unfolding read Short
 read-short s m e =
     let code = byte s 0 in
     subst (Short s) e
-    (by-cases (Short s) (eqb (length s) 0) _ _ (λ _. tt) (λ _.
-    by-cases (Short s) (ltb 0 (least code)) _ _ (λ _.
-    by-cases (Short s) (ltb (length s) (least code)) _ _ (λ _. tt) (λ _.
-    by-cases (Short s) (ltb (most code) (length s)) _ _ (λ _. tt) (λ m.
+    (by-cases (Short s) (eqb (length s) 0) (λ _. tt) (λ _.
+    by-cases (Short s) (ltb 0 (least code)) (λ _.
+    by-cases (Short s) (ltb (length s) (least code)) (λ _. tt) (λ _.
+    by-cases (Short s) (ltb (most code) (length s)) (λ _. tt) (λ m.
     short s (le-trans (ltb-false (most code) (length s) m) (most-small code)) (fields code s)))) (λ _. tt)))
 
 -- The two laws, of a writer's answer and buffer.
@@ -310,9 +306,9 @@ pub read-back : (m : Message) (out : List ℕ) → Sized m → write m out .answ
     → read (take (write m out .answer .length) (write m out .buffer)) ≡ message m
 unfolding write
 read-back m out z =
-    by-cases P (listed m) _ _ (λ l.
-    by-cases P (ltb 1500 (length f)) _ _ (λ _ e. absurd (omega arith)) (λ s.
-    by-cases P (ltb (length out) (length f)) _ _ (λ _ e. absurd (omega arith)) (λ _ _. whole l s))) (λ _ e. absurd (omega arith))
+    by-cases P (listed m) (λ l.
+    by-cases P (ltb 1500 (length f)) (λ _ e. absurd (omega arith)) (λ s.
+    by-cases P (ltb (length out) (length f)) (λ _ e. absurd (omega arith)) (λ _ _. whole l s))) (λ _ e. absurd (omega arith))
   where
     f : List ℕ
     f = layout m

@@ -1,6 +1,6 @@
 -- Laying a frame into a lent buffer: refusals 2 and 9, decided once for every writer (paper 01, 'Refused, and by whom').
 use Prim.Native.Nat.{ℕ, _+_, _-_, _<_, _≤_}
-use mathlib.Core.Bool.{Bool, true, false, cond}
+use mathlib.Core.Bool.{Bool, true, false, cond as pick}
 use mathlib.Core.Path.{_≡_, refl, sym, ap, _∙_}
 use mathlib.Core.List.{List, [], _++_, append-nil, append-assoc}
 use lib.ListN.{length, take, drop, length-append, length-drop, drop-of-length-le}
@@ -9,10 +9,6 @@ use native.Mathlib.Omega.{arith}
 use lib.Dec.{ltb, leb}
 use borrow.Author.Tests.{lt-ltb, le-ltb, lt-leb, le-leb}
 use Rattle.octets.specs.declared.Written.{Written}
-
--- the first of two values if the test holds, else the second
-abbrev pub pick : {A : Type 0} → Bool → A → A → A
-pick test a b = cond test a b
 
 -- the bytes fit into a buffer from a place on
 abbrev pub fits : List ℕ → ℕ → List ℕ → Bool

@@ -1,13 +1,12 @@
 -- The walk over the directory, between two turns: what is known so far, with the entries still to come, gives what all entries give.
 use Prim.Native.Nat.{ℕ, zero, suc, _+_, _-_, _≤_, _<_}
-use mathlib.Core.Bool.{Bool, true, false}
+use mathlib.Core.Bool.{Bool, true, false, cond as pick}
 use mathlib.Core.Path.{_≡_, refl, _∙_}
 use mathlib.Core.List.{List, _∷_}
 use native.Mathlib.Nat.{zero-add, sub-zero}
 use native.Mathlib.Omega.{arith}
 use lib.Dec.{ltb}
 use borrow.Author.Tests.{ltb-true, ltb-false, lt-ltb, le-ltb, eq-eqb, ne-eqb}
-use Rattle.octets.specs.Lay.{pick}
 use Rattle.image.specs.Image.{entryAt, entries, ending, demand, entryRefusal, entriesRefusal, parts, cut, many, segment}
 use Rattle.image.specs.Laws.{entries-cons, segment-here, segment-beyond}
 use Rattle.image.specs.Walk.{Tallied}
