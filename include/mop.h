@@ -54,10 +54,10 @@ extern "C" {
  * data_at on; id is the id_length bytes from id_at on. Entries are without
  * their end mark. */
 typedef struct mop_frame {
-    uint64_t data_at;
-    uint64_t data_length;
-    uint64_t id_at;
-    uint64_t id_length;
+    size_t data_at;
+    size_t data_length;
+    size_t id_at;
+    size_t id_length;
     uint32_t address;
     uint32_t transfer;
     uint32_t memory_size;
@@ -169,9 +169,9 @@ mop_image mop_image_check(const uint8_t *file, size_t file_length,
  * on; last is 1 for the last segment, else 0. Or a refusal, and then the
  * other fields are 0. */
 typedef struct mop_segment {
-    uint64_t at;
+    size_t at;
+    size_t length;
     uint32_t address;
-    uint32_t length;
     uint8_t last;
     uint8_t refusal;
 } mop_segment;

@@ -7,16 +7,20 @@ ghost use Rattle.message.specs.Read.{read};
 ghost use Rattle.message.specs.Write.{write};
 ghost use Rattle.mop.specs.Numbers.{row, placed, numbers};
 ghost use Rattle.mop.specs.Flat.{flat};
+ghost use Rattle.image.specs.Image.{checked, found};
+ghost use Rattle.mop.specs.Image.{image, segment};
+use image::Checked;
+use image::Found;
 use octets::Written;
 use reader::Frame;
 
 // A frame's fields: mop_frame of the header.
 #[repr(C)]
 pub struct FrameFields {
-    pub data_at: u64,
-    pub data_length: u64,
-    pub id_at: u64,
-    pub id_length: u64,
+    pub data_at: usize,
+    pub data_length: usize,
+    pub id_at: usize,
+    pub id_length: usize,
     pub address: u32,
     pub transfer: u32,
     pub memory_size: u32,
@@ -35,10 +39,10 @@ pub struct FrameFields {
 }
 
 // The distance from a place to a later one, or 0.
-fn gap(at: usize, end: usize) -> u64
+fn gap(at: usize, end: usize) -> usize
     ensures { λ r. ⌜ r ≡ end - at ⌝ }
 {
-    if at < end { (end - at) as u64 } else { 0 }
+    if at < end { end - at } else { 0 }
 }
 
 // The fields of a frame with no variable part, and none of a machine's.
@@ -73,7 +77,7 @@ fn placed(f: FrameFields, at: usize, end: usize) -> FrameFields
     ensures { λ r. ⌜ r ≡ placed f at (end - at) ⌝ }
 {
     let mut g = f;
-    g.data_at = at as u64;
+    g.data_at = at;
     g.data_length = gap(at, end);
     g
 }
@@ -248,4 +252,76 @@ pub extern "C" fn mop_write_looped(receipt: u16, bytes: &[u8], out: &mut [u8]) -
     ensures { λ r. ⌜ Came (write (loopedData receipt (now (bytes .entry))) (now (out .entry))) r (now (out .exit)) ⌝ }
 {
     writer::looped_data(receipt, bytes, out)
+}
+
+// An accepted image, or its refusal: mop_image of the header.
+#[repr(C)]
+pub struct ImageFields {
+    pub segments: u64,
+    pub transfer: u32,
+    pub regions: u16,
+    pub refusal: u8,
+}
+
+// A segment, or its refusal: mop_segment of the header.
+#[repr(C)]
+pub struct SegmentFields {
+    pub at: usize,
+    pub length: usize,
+    pub address: u32,
+    pub last: u8,
+    pub refusal: u8,
+}
+
+#[no_mangle]
+pub extern "C" fn mop_image_check(file: &[u8], segment_size: u32) -> ImageFields
+    ensures { λ r. ⌜ r ≡ image (checked (now (file .entry)) «segment_size») ⌝ }
+{
+    let answer = image::check(file, segment_size);
+    match answer {
+        Checked::Accepted {
+            count,
+            transfer,
+            many,
+        } => ImageFields {
+            segments: many,
+            transfer,
+            regions: count,
+            refusal: 0,
+        },
+        Checked::Refused(refusal) => ImageFields {
+            segments: 0,
+            transfer: 0,
+            regions: 0,
+            refusal,
+        },
+    }
+}
+
+#[no_mangle]
+pub extern "C" fn mop_image_segment(file: &[u8], segment_size: u32, index: u64) -> SegmentFields
+    ensures { λ r. ⌜ r ≡ segment (found (now (file .entry)) «segment_size» index) ⌝ }
+{
+    let answer = image::segment(file, segment_size, index);
+    match answer {
+        Found::Segment {
+            address,
+            at,
+            length,
+            last,
+        } => SegmentFields {
+            at,
+            length,
+            address,
+            last: if last { 1 } else { 0 },
+            refusal: 0,
+        },
+        Found::Refused(refusal) => SegmentFields {
+            at: 0,
+            length: 0,
+            address: 0,
+            last: 0,
+            refusal,
+        },
+    }
 }
