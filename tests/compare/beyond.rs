@@ -111,10 +111,14 @@ impl Compare {
             (request_program(0, data, &[]), 4),
             (request_program(16, &bytes[..BEYOND + 16], &[]), 4),
         ];
-        for (frame, wanted) in frames {
-            for room in [0, 20, 1500] {
+        // 2 comes before 9 here too.
+        for (frame, wanted) in frames.into_iter().filter(|&(_, wanted)| wanted == 2) {
+            for room in [0, 20] {
                 self.write("above 32 bits", &frame, room, Wanted::Refusal(wanted));
             }
+        }
+        for (frame, wanted) in frames {
+            self.write("above 32 bits", &frame, 1500, Wanted::Refusal(wanted));
         }
     }
 

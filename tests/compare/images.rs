@@ -232,8 +232,8 @@ impl Compare {
                 let (at, length) = place(segment.data, file);
                 mop_proved::Segment {
                     at,
+                    length,
                     address: segment.address,
-                    length: length as u32,
                     last: segment.last.into(),
                     refusal: 0,
                 }
@@ -262,14 +262,14 @@ impl Compare {
                 let address = get_u32(entry, ADDRESS) + bytes.len() as u32;
                 let good = segment.refusal == 0
                     && segment.address == address
-                    && segment.length as usize == full
+                    && segment.length == full
                     && (segment.last == 1) == (index + 1 == count);
                 if !good {
                     let what = format_args!("walk at segment {index}, segment size {size}");
                     self.tally.differ(what, Hex(file), segment, (address, full));
                     return;
                 }
-                let at = segment.at as usize;
+                let at = segment.at;
                 bytes.extend_from_slice(&file[at..at + full]);
                 index += 1;
             }

@@ -455,7 +455,7 @@ fn fields(answer: Result<Frame, u8>, bytes: &[u8]) -> mop_proved::Frame {
 }
 
 /// Where a part stands in the whole that it was borrowed from, and its length.
-pub fn place(part: &[u8], whole: &[u8]) -> (u64, u64) {
+pub fn place(part: &[u8], whole: &[u8]) -> (usize, usize) {
     let at = part.as_ptr().addr() - whole.as_ptr().addr();
-    (at as u64, part.len() as u64)
+    (at, part.len())
 }

@@ -343,10 +343,7 @@ fn wanted_buffer(
 
 fn written(answer: Result<usize, u8>) -> Written {
     match answer {
-        Ok(length) => Written {
-            length: length as u64,
-            refusal: 0,
-        },
+        Ok(length) => Written { length, refusal: 0 },
         Err(refusal) => Written { length: 0, refusal },
     }
 }

@@ -15,4 +15,5 @@ PLACE(mop_written, refusal, 8);
 SIZE(mop_image, 16);
 PLACE(mop_image, refusal, 14);
 SIZE(mop_segment, 24);
-PLACE(mop_segment, refusal, 17);
+PLACE(mop_segment, address, 16);
+PLACE(mop_segment, refusal, 21);

@@ -12,10 +12,10 @@ use std::sync::atomic::{AtomicBool, Ordering};
 #[repr(C)]
 #[derive(Clone, Copy, Debug, Default, PartialEq, Eq)]
 pub struct Frame {
-    pub data_at: u64,
-    pub data_length: u64,
-    pub id_at: u64,
-    pub id_length: u64,
+    pub data_at: usize,
+    pub data_length: usize,
+    pub id_at: usize,
+    pub id_length: usize,
     pub address: u32,
     pub transfer: u32,
     pub memory_size: u32,
@@ -37,7 +37,7 @@ pub struct Frame {
 #[repr(C)]
 #[derive(Clone, Copy, Debug, Default, PartialEq, Eq)]
 pub struct Written {
-    pub length: u64,
+    pub length: usize,
     pub refusal: u8,
 }
 
@@ -55,9 +55,9 @@ pub struct Image {
 #[repr(C)]
 #[derive(Clone, Copy, Debug, Default, PartialEq, Eq)]
 pub struct Segment {
-    pub at: u64,
+    pub at: usize,
+    pub length: usize,
     pub address: u32,
-    pub length: u32,
     pub last: u8,
     pub refusal: u8,
 }
@@ -69,7 +69,8 @@ const _: () = {
     assert!(offset_of!(Frame, compatibility) == 57);
     assert!(size_of::<Written>() == 16 && offset_of!(Written, refusal) == 8);
     assert!(size_of::<Image>() == 16 && offset_of!(Image, refusal) == 14);
-    assert!(size_of::<Segment>() == 24 && offset_of!(Segment, refusal) == 17);
+    assert!(size_of::<Segment>() == 24 && offset_of!(Segment, address) == 16);
+    assert!(offset_of!(Segment, refusal) == 21);
 };
 
 #[link(name = "mop", kind = "static")]

@@ -38,6 +38,16 @@ pub cases : Cases
 unfolding number low least leastIn fields read next walk field trailerOf entryOf entries demand entriesRefusal many image hostTime
 cases =
     record {
-      K1 = refl; K2 = refl; K3-short = refl; K3-long = refl; K4 = refl; K5 = λ n a b c d e f g h. refl; K5-short = λ n a b c d e f g. refl;
-      K6 = refl; K6-beyond = refl; K10 = refl; K11 = refl; K11-opposite = refl
+      K1 = refl;
+      K2 = refl;
+      K3-short = refl;
+      K3-long = refl;
+      K4 = refl;
+      K5 = λ n a b c d e f g h. refl;
+      K5-short = λ n a b c d e f g. refl;
+      K6 = refl;
+      K6-beyond = refl;
+      K10 = refl;
+      K11 = refl;
+      K11-opposite = refl;
     }

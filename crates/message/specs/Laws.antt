@@ -72,7 +72,7 @@ with-id-written d f p form id proc info =
     let at : length front ≡ 5 + n = omega arith in
     let next : 6 + n ≡ 5 + n + 1 = omega arith in
     let behind : drop (5 + n + 1) (front ++ (proc ∷ info)) ≡ info =
-        sym (drop-drop 1 (5 + n) (front ++ (proc ∷ info))) ∙ ap (drop 1) (drop-at front (proc ∷ info) (5 + n) at) in
+    sym (drop-drop 1 (5 + n) (front ++ (proc ∷ info))) ∙ ap (drop 1) (drop-at front (proc ∷ info) (5 + n) at) in
     let long : 6 + n ≤ length (front ++ (proc ∷ info)) = simp length-append (omega arith) in
     rw (le-ltb (length (front ++ (proc ∷ info))) (6 + n) long, take-at id (proc ∷ info) n refl, getD-at front proc info 0 (5 + n) at, next, behind)
 
@@ -156,9 +156,11 @@ module _ (s : List ℕ) (o : Octets s) where
   back-memoryLoadTransfer : byte s 0 ≡ 0 → 10 ≤ length s → Back s (memoryLoadTransferFields s)
   unfolding layout
   back-memoryLoadTransfer e h =
-      let front : 6 + (length s - 10) ≡ length s - 4 = omega arith in
-      ( (rw (last-on-word 4 s (length s - 4) o (omega arith), ← front, on-part s 6 (length s - 10), on-word 4 s 2 o (omega arith), on-byte s 1 (omega arith)) (first 0 e (omega arith)))
-      , refl, (bound 4 2, bound 4 (length s - 4)))
+      let front : 6 + (length s - 10) ≡ length s - 4 = omega arith in (
+        (rw (last-on-word 4 s (length s - 4) o (omega arith), ← front, on-part s 6 (length s - 10), on-word 4 s 2 o (omega arith), on-byte s 1 (omega arith)) (first 0 e (omega arith))),
+        refl,
+        (bound 4 2, bound 4 (length s - 4)),
+      )
 
   back-memoryLoad : byte s 0 ≡ 2 → 6 ≤ length s → Back s (memoryLoadFields s)
   unfolding layout
@@ -171,9 +173,11 @@ module _ (s : List ℕ) (o : Octets s) where
       by-cases (Back s) (ltb (length s) (6 + n)) (λ _. tt) (λ b.
       let l : 6 + n ≤ length s = ltb-false (length s) (6 + n) b in
       let next : 6 + n ≡ 5 + n + 1 = omega arith in
-      let size : length (take n (drop 5 s)) ≡ n = simp (length-take, length-drop) (omega arith) in
-      ( (rw (next, on-byte s (5 + n) (omega arith), on-part s 5 n, on-byte s 4 (omega arith), on-byte s 3 (omega arith), on-byte s 2 (omega arith), on-byte s 1 (omega arith)) (first 8 e (omega arith)))
-      , rw (p, f, size) (eq-eqb n (idLength (byte s 4)) q), tt))
+      let size : length (take n (drop 5 s)) ≡ n = simp (length-take, length-drop) (omega arith) in (
+        (rw (next, on-byte s (5 + n) (omega arith), on-part s 5 n, on-byte s 4 (omega arith), on-byte s 3 (omega arith), on-byte s 2 (omega arith), on-byte s 1 (omega arith)) (first 8 e (omega arith))),
+        rw (p, f, size) (eq-eqb n (idLength (byte s 4)) q),
+        tt,
+      ))
 
   back-requestProgram : byte s 0 ≡ 8 → 6 ≤ length s → Back s (requestProgramFields s)
   back-requestProgram e h =
@@ -191,9 +195,11 @@ module _ (s : List ℕ) (o : Octets s) where
 
   back-requestDumpService : byte s 0 ≡ 12 → 8 ≤ length s → Back s (requestDumpServiceFields s)
   unfolding layout
-  back-requestDumpService e h =
-      ( (rw (on-byte s 7 (omega arith), on-word 4 s 3 o (omega arith), on-byte s 2 (omega arith), on-byte s 1 (omega arith)) (first 12 e (omega arith)))
-      , refl, bound 4 3)
+  back-requestDumpService e h = (
+    (rw (on-byte s 7 (omega arith), on-word 4 s 3 o (omega arith), on-byte s 2 (omega arith), on-byte s 1 (omega arith)) (first 12 e (omega arith))),
+    refl,
+    bound 4 3,
+  )
 
   back-dumpData : byte s 0 ≡ 14 → 5 ≤ length s → Back s (dumpDataFields s)
   unfolding layout
@@ -228,9 +234,11 @@ module _ (s : List ℕ) (o : Octets s) where
       let last : 2 + (length (drop 2 s) - 4) ≡ length s - 4 = rw length-drop (omega arith) in
       let behind : drop (length (drop 2 s) - 4) (drop 2 s) ≡ drop (length s - 4) s = rw (drop-drop, last) in
       let entries : walk Kind (take (length s - 7) (drop 2 s)) ≡ Kind = rw (← size) (a .entries) in
-      let joined : take (length s - 7) (drop 2 s) ++ (0 ∷ drop (length s - 4) s) ≡ drop 2 s = sym (rw (size, behind) at (a .whole)) in
-      ( (rw (last-on-word 4 s (length s - 4) o (omega arith), joined, on-byte s 1 (omega arith)) (first 20 e (omega arith)))
-      , rw entries, bound 4 (length s - 4))) (λ _. tt)
+      let joined : take (length s - 7) (drop 2 s) ++ (0 ∷ drop (length s - 4) s) ≡ drop 2 s = sym (rw (size, behind) at (a .whole)) in (
+        (rw (last-on-word 4 s (length s - 4) o (omega arith), joined, on-byte s 1 (omega arith)) (first 20 e (omega arith))),
+        rw entries,
+        bound 4 (length s - 4),
+      )) (λ _. tt)
 
   -- the fields of a frame whose length is right for its code
   back-fields : (code : ℕ) → byte s 0 ≡ code → least code ≤ length s → length s ≤ most code → Back s (fields code s)

@@ -46,7 +46,16 @@ fn gap(at: usize, end: usize) -> usize
 }
 
 // The fields of a frame with no variable part, and none of a machine's.
-fn plain(refusal: u8, code: u8, number: u8, error: u8, count: u16, receipt: u16, address: u32, transfer: u32) -> FrameFields
+fn plain(
+    refusal: u8,
+    code: u8,
+    number: u8,
+    error: u8,
+    count: u16,
+    receipt: u16,
+    address: u32,
+    transfer: u32,
+) -> FrameFields
     ensures { λ r. ⌜ r ≡ row refusal code number error 0 0 0 0 0 0 count receipt address transfer 0 0 0 0 0 ⌝ }
 {
     FrameFields {
@@ -90,7 +99,15 @@ fn after(end: usize, n: usize) -> usize
 }
 
 // Code 8, with the software id from 5 to `end` and the info behind the processor, to n.
-fn program(device: u8, format: u8, program: u8, form: u8, processor: u8, end: usize, n: usize) -> FrameFields
+fn program(
+    device: u8,
+    format: u8,
+    program: u8,
+    form: u8,
+    processor: u8,
+    end: usize,
+    n: usize,
+) -> FrameFields
     ensures { λ r. ⌜ r ≡ row 0 8 0 0 device format program form processor 0 0 0 0 0 0 (min (end + 1) n) (n - min (end + 1) n) 5 (end - 5) ⌝ }
 {
     let mut f = placed(plain(0, 8, 0, 0, 0, 0, 0, 0), after(end, n), n);
@@ -171,7 +188,13 @@ pub extern "C" fn mop_read(frame: &[u8]) -> FrameFields
 // A writer for each code. Its answer is mop_written of the header.
 
 #[no_mangle]
-pub extern "C" fn mop_write_load_transfer(number: u8, address: u32, bytes: &[u8], transfer: u32, out: &mut [u8]) -> Written
+pub extern "C" fn mop_write_load_transfer(
+    number: u8,
+    address: u32,
+    bytes: &[u8],
+    transfer: u32,
+    out: &mut [u8],
+) -> Written
     ensures { λ r. ⌜ Came (write (memoryLoadTransfer number address (now (bytes .entry)) transfer) (now (out .entry))) r (now (out .exit)) ⌝ }
 {
     writer::memory_load_transfer(number, address, bytes, transfer, out)
@@ -185,7 +208,16 @@ pub extern "C" fn mop_write_load(number: u8, address: u32, bytes: &[u8], out: &m
 }
 
 #[no_mangle]
-pub extern "C" fn mop_write_request_program(device: u8, format: u8, program: u8, form: u8, id: &[u8], processor: u8, info: &[u8], out: &mut [u8]) -> Written
+pub extern "C" fn mop_write_request_program(
+    device: u8,
+    format: u8,
+    program: u8,
+    form: u8,
+    id: &[u8],
+    processor: u8,
+    info: &[u8],
+    out: &mut [u8],
+) -> Written
     ensures { λ r. ⌜ Came (write (requestProgram device format program form (now (id .entry)) processor (now (info .entry))) (now (out .entry))) r (now (out .exit)) ⌝ }
 {
     writer::request_program(device, format, program, form, id, processor, info, out)
@@ -206,7 +238,14 @@ pub extern "C" fn mop_write_request_dump(address: u32, count: u16, out: &mut [u8
 }
 
 #[no_mangle]
-pub extern "C" fn mop_write_request_dump_service(device: u8, format: u8, size: u32, compatibility: u8, info: &[u8], out: &mut [u8]) -> Written
+pub extern "C" fn mop_write_request_dump_service(
+    device: u8,
+    format: u8,
+    size: u32,
+    compatibility: u8,
+    info: &[u8],
+    out: &mut [u8],
+) -> Written
     ensures { λ r. ⌜ Came (write (requestDumpService device format size compatibility (now (info .entry))) (now (out .entry))) r (now (out .exit)) ⌝ }
 {
     writer::request_dump_service(device, format, size, compatibility, info, out)
@@ -234,7 +273,12 @@ pub extern "C" fn mop_write_volunteer(out: &mut [u8]) -> Written
 }
 
 #[no_mangle]
-pub extern "C" fn mop_write_parameters(number: u8, entries: &[u8], transfer: u32, out: &mut [u8]) -> Written
+pub extern "C" fn mop_write_parameters(
+    number: u8,
+    entries: &[u8],
+    transfer: u32,
+    out: &mut [u8],
+) -> Written
     ensures { λ r. ⌜ Came (write (parameters number (now (entries .entry)) transfer) (now (out .entry))) r (now (out .exit)) ⌝ }
 {
     writer::parameters(number, entries, transfer, out)

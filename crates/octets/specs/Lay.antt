@@ -102,9 +102,9 @@ module _ (head body tail rest out : List ℕ) where
       let p₁ : one ≡ head ++ out₁ = e₁ ∙ put-next [] head out (omega arith) in
       let p₂ : two ≡ (head ++ body) ++ out₂ = e₂ ∙ (rw (p₁, put-next head body out₁ (simp length-drop (omega arith)))) in
       let p₃ : three ≡ ((head ++ body) ++ tail) ++ out₃ =
-          e₃ ∙ (rw (p₂, ← length-append head body, put-next (head ++ body) tail out₂ (simp length-drop (omega arith)))) in
+      e₃ ∙ (rw (p₂, ← length-append head body, put-next (head ++ body) tail out₂ (simp length-drop (omega arith)))) in
       let p₄ : four ≡ (((head ++ body) ++ tail) ++ rest) ++ drop (length rest) out₃ =
-          e₄ ∙ (rw (p₃, ← length-append head body, ← length-append (head ++ body) tail, put-next ((head ++ body) ++ tail) rest out₃ (simp length-drop (omega arith)))) in
+      e₄ ∙ (rw (p₃, ← length-append head body, ← length-append (head ++ body) tail, put-next ((head ++ body) ++ tail) rest out₃ (simp length-drop (omega arith)))) in
       let n = length-joined in
       let w = laid-whole (head ++ (body ++ (tail ++ rest))) out (omega arith) (omega arith) in
       (ap written (sym n) ∙ w .0, p₄ ∙ (simp (drop-drop, append-assoc, n)) ∙ w .1)

@@ -50,7 +50,12 @@ pub fn word32(s: &[u8], at: usize) -> u32
     if s.len() < at {
         return 0;
     }
-    join32(octet(s, at), octet(s, at + 1), octet(s, at + 2), octet(s, at + 3))
+    join32(
+        octet(s, at),
+        octet(s, at + 1),
+        octet(s, at + 2),
+        octet(s, at + 3),
+    )
 }
 
 // The two bytes of a number.

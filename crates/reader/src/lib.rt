@@ -18,7 +18,10 @@ pub enum Frame {
         transfer: u32,
     },
     // Code 2. The data is 6.. .
-    MemoryLoad { number: u8, address: u32 },
+    MemoryLoad {
+        number: u8,
+        address: u32,
+    },
     // Code 8. The software id is 5..end, the info end + 1.. .
     RequestProgram {
         device: u8,
@@ -29,9 +32,15 @@ pub enum Frame {
         processor: u8,
     },
     // Code 10.
-    RequestLoad { number: u8, error: u8 },
+    RequestLoad {
+        number: u8,
+        error: u8,
+    },
     // Code 4.
-    RequestDump { address: u32, count: u16 },
+    RequestDump {
+        address: u32,
+        count: u16,
+    },
     // Code 12. The info is 8.. .
     RequestDumpService {
         device: u8,
@@ -40,7 +49,9 @@ pub enum Frame {
         compatibility: u8,
     },
     // Code 14. The data is 5.. .
-    DumpData { address: u32 },
+    DumpData {
+        address: u32,
+    },
     // Code 1.
     DumpComplete,
     // Code 3.
@@ -52,9 +63,13 @@ pub enum Frame {
         transfer: u32,
     },
     // Code 24. The data is 3.. .
-    LoopData { receipt: u16 },
+    LoopData {
+        receipt: u16,
+    },
     // Code 26. The data is 3.. .
-    LoopedData { receipt: u16 },
+    LoopedData {
+        receipt: u16,
+    },
     // A refusal, by paper 01's number.
     Refused(u8),
 }

@@ -8,7 +8,13 @@ use entries::Place;
 use octets::Written;
 
 // Code 0, memory load with transfer.
-pub fn memory_load_transfer(number: u8, address: u32, bytes: &[u8], transfer: u32, out: &mut [u8]) -> Written
+pub fn memory_load_transfer(
+    number: u8,
+    address: u32,
+    bytes: &[u8],
+    transfer: u32,
+    out: &mut [u8],
+) -> Written
     ensures { λ r. ⌜ Came (write (memoryLoadTransfer number address (now (bytes .entry)) transfer) (now (out .entry))) r (now (out .exit)) ⌝ }
 {
     let a = octets::low32(address);
@@ -48,7 +54,14 @@ pub fn request_dump(address: u32, count: u16, out: &mut [u8]) -> Written
 }
 
 // Code 12, request dump service.
-pub fn request_dump_service(device: u8, format: u8, size: u32, compatibility: u8, info: &[u8], out: &mut [u8]) -> Written
+pub fn request_dump_service(
+    device: u8,
+    format: u8,
+    size: u32,
+    compatibility: u8,
+    info: &[u8],
+    out: &mut [u8],
+) -> Written
     ensures { λ r. ⌜ Came (write (requestDumpService device format size compatibility (now (info .entry))) (now (out .entry))) r (now (out .exit)) ⌝ }
 {
     let n = octets::low32(size);
@@ -102,7 +115,16 @@ pub fn looped_data(receipt: u16, bytes: &[u8], out: &mut [u8]) -> Written
 }
 
 // Code 8, request program. The id has exactly the length that the form says.
-pub fn request_program(device: u8, format: u8, program: u8, form: u8, id: &[u8], processor: u8, info: &[u8], out: &mut [u8]) -> Written
+pub fn request_program(
+    device: u8,
+    format: u8,
+    program: u8,
+    form: u8,
+    id: &[u8],
+    processor: u8,
+    info: &[u8],
+    out: &mut [u8],
+) -> Written
     ensures { λ r. ⌜ Came (write (requestProgram device format program form (now (id .entry)) processor (now (info .entry))) (now (out .entry))) r (now (out .exit)) ⌝ }
 {
     if 2 < program {

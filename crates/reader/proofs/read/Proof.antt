@@ -49,7 +49,7 @@ returns-4 c =
     let s = c .before .before .before .before .before .before .before .before .before .before .args .s .now in
     record {
       means = excess s (c .before .before .before .before .before .before .before .before .if1 .left) _ (c .before .before .before .before .before .before .row-of .ensures) (c .before .before .before .before .if2 .left) (c .before .before .if3 .left) _ (c .before .longest .ensures) (c .if4 .taken);
-      within = tt
+      within = tt;
     }
 
 -- src/lib.rt:180:5

@@ -1,0 +1,87 @@
+use borrow.Author.Needs.{needs}
+use Rattle.listing.proofs.form.Statement.{statement}
+use Rattle.listing.proofs.form.Tie as tie
+use Rattle.listing.proofs.form.Reads as reads
+use Rattle.listing.proofs.form.Lts as lts
+use Rattle.listing.proofs.add.Reads as add-reads
+use Rattle.listing.proofs.decimal.Reads as decimal-reads
+
+-- src/lib.rt:216:18
+slice-aggregate-add : tie.Need-slice-aggregate-add
+slice-aggregate-add c = search needs
+
+-- src/lib.rt:216:14
+add-requires : tie.Need-add-requires
+add-requires c κs = ?
+
+-- src/lib.rt:217:20
+slice-aggregate-add-2 : tie.Need-slice-aggregate-add-2
+slice-aggregate-add-2 c = search needs
+
+-- src/lib.rt:217:16
+add-requires-2 : tie.Need-add-requires-2
+add-requires-2 c κs = ?
+
+-- src/lib.rt:218:20
+slice-aggregate-add-3 : tie.Need-slice-aggregate-add-3
+slice-aggregate-add-3 c = search needs
+
+-- src/lib.rt:218:16
+add-requires-3 : tie.Need-add-requires-3
+add-requires-3 c κs = ?
+
+-- src/lib.rt:219:14
+decimal-requires : tie.Need-decimal-requires
+decimal-requires c κs = ?
+
+-- src/lib.rt:211:1
+same-length : tie.Need-same-length
+same-length c = search needs
+
+-- src/lib.rt:211:1
+returns : tie.Need-returns
+returns c = ?
+
+-- src/lib.rt:211:1
+same-length-2 : tie.Need-same-length-2
+same-length-2 c = search needs
+
+-- src/lib.rt:211:1
+returns-2 : tie.Need-returns-2
+returns-2 c = ?
+
+-- src/lib.rt:211:1
+same-length-3 : tie.Need-same-length-3
+same-length-3 c = search needs
+
+-- src/lib.rt:211:1
+returns-3 : tie.Need-returns-3
+returns-3 c = ?
+
+-- src/lib.rt:211:1
+same-length-4 : tie.Need-same-length-4
+same-length-4 c = search needs
+
+-- src/lib.rt:211:1
+returns-4 : tie.Need-returns-4
+returns-4 c = ?
+
+pub form-spec : {M : Type 1} → statement M
+form-spec =
+    tie.close
+    (tie.spec
+    slice-aggregate-add
+    add-requires
+    slice-aggregate-add-2
+    add-requires-2
+    slice-aggregate-add-3
+    add-requires-3
+    decimal-requires
+    same-length
+    returns
+    same-length-2
+    returns-2
+    same-length-3
+    returns-3
+    same-length-4
+    returns-4)

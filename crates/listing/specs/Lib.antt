@@ -1,0 +1,5 @@
+pub mod Text
+pub mod Hexadecimal
+pub mod Line
+pub mod Over
+pub mod Pattern
