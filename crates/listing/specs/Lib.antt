@@ -3,3 +3,4 @@ pub mod Hexadecimal
 pub mod Line
 pub mod Over
 pub mod Pattern
+pub mod Answer

@@ -1,15 +1,18 @@
 -- Texts laid over a buffer one behind the other.
 use Prim.Native.Nat.{ℕ, zero, suc, _+_, _-_, _/_, _%_, _<_, _≤_, min}
 use mathlib.Core.Path.{_≡_, refl, sym, ap, _∙_}
-use mathlib.Core.List.{List, [], _∷_, _++_, append-assoc}
+use mathlib.Core.Bool.{Bool, true, false, cond}
+use mathlib.Core.List.{List, [], _∷_, _++_, append-assoc, append-nil}
 use native.Mathlib.Omega.{arith}
-use native.Mathlib.Nat.{add-assoc, add-zero}
+use native.Mathlib.Nat.{add-assoc, add-zero, zero-add}
 use native.Mathlib.Numerals.{add-one}
-use lib.ListN.{length, getD, take, drop, set, length-append, length-take, length-drop, take-append-drop, length-set}
-use lib.Seq.{drop-cons, take-at, drop-at, drop-drop, set-split, take-set-le, length-take-le}
+use lib.ListN.{length, getD, take, drop, set, length-append, length-take, length-drop, take-append-drop, length-set, drop-of-length-le}
+use lib.Seq.{drop-cons, take-at, drop-at, drop-drop, set-split, take-set-le, length-take-le, take-all}
+use lib.Dec.{eqb}
 use borrow.Author.Tests.{ne-eqb}
 use Rattle.octets.specs.Lay.{over}
-use Rattle.listing.specs.Text.{digit, digits, trimmed, pairs}
+use Rattle.listing.specs.Pattern.{Added, takes, piece, composed}
+use Rattle.listing.specs.Text.{digit, digits, trimmed, decimal, pairs, bytes, chars}
 
 pub length-over : (xs : List ℕ) (at : ℕ) (out : List ℕ) → at + length xs ≤ length out → length (over xs at out) ≡ length out
 length-over xs at out h = simp (length-append, length-take, length-drop) (omega arith)
@@ -57,6 +60,73 @@ pub over-none : (base i n at : ℕ) (out : List ℕ) → i ≤ 0 → out ≡ ove
 unfolding digits
 over-none base zero n at out h = sym (over-nil at out)
 over-none base (suc i) n at out h = absurd (omega arith)
+
+-- Of a text that goes over a buffer from a place on, the rest is still to go over the buffer as it is now, from `at` on.
+pub record Left (rest : List ℕ) (at : ℕ) (out : List ℕ) (whole : List ℕ) (from : ℕ) (out₀ : List ℕ) : Type 0 where
+  pub behind : at + length rest ≡ from + length whole
+  pub long : length out ≡ length out₀
+  pub gives : over rest at out ≡ over whole from out₀
+
+module _ {rest : List ℕ} {at : ℕ} {out whole : List ℕ} {from : ℕ} {out₀ : List ℕ} (l : Left rest at out whole from out₀) (fits : from + length whole ≤ length out₀) where
+  pub left-room : (xs ys : List ℕ) → rest ≡ xs ++ ys → at + length xs ≤ length out
+  left-room xs ys e = let n : length rest ≡ length xs + length ys = ap length e ∙ length-append xs ys in omega (arith, l .behind, l .long)
+
+  -- a piece is added
+  pub left-next : (xs ys : List ℕ) → rest ≡ xs ++ ys → {r : ℕ} {out′ : List ℕ} → Added xs at out r out′ → Left ys r out′ whole from out₀
+  left-next xs ys e {r} {out′} a =
+      let n : length rest ≡ length xs + length ys = ap length e ∙ length-append xs ys in
+      let room = left-room xs ys e in
+      record {
+        behind = omega (arith, l .behind, a .0);
+        long = ap length (a .1) ∙ length-over xs at out room ∙ l .long;
+        gives = rw (a .0, a .1, over-append xs ys at out room, ← e) (l .gives)
+      }
+
+pub left-none : (at : ℕ) (out whole : List ℕ) (from : ℕ) (out₀ : List ℕ) → Left [] at out whole from out₀ → Added whole from out₀ at out
+left-none at out whole from out₀ l = (omega (arith, l .behind), sym (over-nil at out) ∙ l .gives)
+
+-- a text as long as the buffer
+over-whole : (xs out : List ℕ) → length xs ≡ length out → over xs 0 out ≡ xs
+over-whole xs out e = rw (zero-add, drop-of-length-le out {i = length xs} (omega arith), append-nil)
+
+-- the decimal digits behind the zeros in front
+pub decimal-cut : (n r : ℕ) (d zeros : List ℕ) → length zeros ≡ 10 → d ≡ over (digits 10 10 n) 0 zeros → drop r d ≡ trimmed d → take (10 - r) (drop r d) ≡ decimal n
+decimal-cut n r d zeros z e t =
+    let w : d ≡ digits 10 10 n = e ∙ over-whole (digits 10 10 n) zeros (length-digits 10 10 n ∙ sym z) in
+    let l : length d ≡ 10 = ap length w ∙ length-digits 10 10 n in
+    take-all (10 - r) (drop r d) (simp length-drop (omega arith)) ∙ t ∙ ap trimmed w
+
+pub pairs-at : (s : List ℕ) (i : ℕ) → i < length s → pairs (drop i s) ≡ digits 16 2 (getD s i 0) ++ pairs (drop (i + 1) s)
+unfolding pairs
+pairs-at s i h = rw (add-one, drop-cons s i 0 h)
+
+pub pairs-none : (s : List ℕ) (i : ℕ) → length s ≤ i → pairs (drop i s) ≡ []
+unfolding pairs
+pairs-none s i h = rw (drop-of-length-le s {i = i} h)
+
+pub bytes-none : (s : List ℕ) → length s ≡ 0 → bytes s ≡ chars "-"
+bytes-none [] h = refl
+bytes-none (b ∷ rest) h = absurd (omega arith)
+
+pub bytes-some : (s : List ℕ) → (length s ≡ 0 → ⊥) → bytes s ≡ pairs s
+bytes-some [] h = absurd (h refl)
+bytes-some (b ∷ rest) h = refl
+
+pub composed-at : (s p v : List ℕ) (i k : ℕ) → i < length p
+    → composed s (drop i p) v k ≡ piece s (getD p i 0) v k ++ composed s (drop (i + 1) p) v (k + takes (getD p i 0))
+unfolding composed
+composed-at s p v i k h = rw (add-one i, drop-cons p i 0 h)
+
+pub composed-none : (s p v : List ℕ) (i k : ℕ) → length p ≤ i → composed s (drop i p) v k ≡ []
+unfolding composed
+composed-none s p v i k h = rw (drop-of-length-le p {i = i} h)
+
+at-most : (test : Bool) (n a b : ℕ) → a ≤ n → b ≤ n → cond test a b ≤ n
+at-most true n a b x y = x
+at-most false n a b x y = y
+
+pub takes-most : (c : ℕ) → takes c ≤ 2
+takes-most c = at-most (eqb c 35) 2 1 _ (omega arith) (at-most (eqb c 64) 2 1 _ (omega arith) (at-most (eqb c 37) 2 2 _ (omega arith) (at-most (eqb c 63) 2 1 _ (omega arith) (at-most (eqb c 33) 2 1 0 (omega arith) (omega arith)))))
 
 -- the zeros in front, digit by digit
 two : (d : List ℕ) (i : ℕ) → i + 1 < length d → drop i d ≡ getD d i 0 ∷ getD d (suc i) 0 ∷ drop (suc (suc i)) d

@@ -5,7 +5,7 @@ ghost use Prim.Native.Nat.{_+_, _*_, _<_, _≤_, min};
 ghost use lib.ListN.{length, getD, drop};
 ghost use Rattle.octets.specs.Lay.{over, Came};
 ghost use Rattle.reader.specs.Answer.{meaning};
-ghost use Rattle.listing.specs.Text.{digit, digits, trimmed, decimal, address, pairs, bytes, program, form, pattern};
+ghost use Rattle.listing.specs.Text.{digit, digits, trimmed, decimal, address, pairs, bytes, program, form, reason, pattern};
 ghost use Rattle.listing.specs.Hexadecimal.{nibble};
 ghost use Rattle.listing.specs.Line.{fresh, next, kept};
 ghost use Rattle.listing.specs.Pattern.{Added, part, takes, piece, composed, few, numbers};
@@ -271,4 +271,106 @@ fn fill(s: &[u8], pattern: &[u8], v: &[usize], out: &mut [u8]) -> usize
         i += 1;
     }
     at
+}
+
+fn few(a: usize, b: usize, c: usize, d: usize, e: usize) -> [usize; 9]
+    ensures { λ r. ⌜ r ≡ few a b c d e ⌝ }
+{
+    [a, b, c, d, e, 0, 0, 0, 0]
+}
+
+// The place after `end`, in a frame of n bytes.
+fn after(end: usize, n: usize) -> usize
+    ensures { λ r. ⌜ r ≡ min (end + 1) n ⌝ }
+{
+    if end < n { end + 1 } else { n }
+}
+
+// The numbers of an answer on a frame of n bytes, in the pattern's order; two for a part.
+fn numbers(answer: Frame, n: usize) -> [usize; 9]
+    ensures { λ r. ⌜ r ≡ numbers n answer ⌝ }
+{
+    match answer {
+        Frame::MemoryLoadTransfer {
+            number,
+            address,
+            end,
+            transfer,
+        } => few(number as usize, address as usize, 6, end, transfer as usize),
+        Frame::MemoryLoad { number, address } => few(number as usize, address as usize, 6, n, 0),
+        Frame::RequestProgram {
+            device,
+            format,
+            program,
+            form,
+            end,
+            processor,
+        } => [
+            device as usize,
+            format as usize,
+            program as usize,
+            form as usize,
+            5,
+            end,
+            processor as usize,
+            after(end, n),
+            n,
+        ],
+        Frame::RequestLoad { number, error } => few(number as usize, error as usize, 0, 0, 0),
+        Frame::RequestDump { address, count } => few(address as usize, count as usize, 0, 0, 0),
+        Frame::RequestDumpService {
+            device,
+            format,
+            size,
+            compatibility,
+        } => [device as usize, format as usize, size as usize, compatibility as usize, 8, n, 0, 0, 0],
+        Frame::DumpData { address } => few(address as usize, 5, n, 0, 0),
+        Frame::DumpComplete => few(0, 0, 0, 0, 0),
+        Frame::Volunteer => few(0, 0, 0, 0, 0),
+        Frame::Parameters {
+            number,
+            end,
+            transfer,
+        } => few(number as usize, 2, end, transfer as usize, 0),
+        Frame::LoopData { receipt } => few(receipt as usize, 3, n, 0, 0),
+        Frame::LoopedData { receipt } => few(receipt as usize, 3, n, 0, 0),
+        Frame::Refused(_) => few(0, 0, 0, 0, 0),
+    }
+}
+
+// Why a frame was refused.
+fn reason(n: u8, s: &[u8], v: &[usize], out: &mut [u8]) -> usize
+    requires { ⌜ length (composed (now s) (reason n) (now v) 0) ≤ length (now out) ⌝ }
+    ensures { λ r. ⌜ Added (composed (now (s .entry)) (reason n) (now (v .entry)) 0) 0 (now (out .entry)) r (now (out .exit)) ⌝ }
+{
+    match n {
+        1 => fill(s, b"refused 1: empty, or ends too early", v, out),
+        2 => fill(s, b"refused 2: bytes left over, or above 1,500", v, out),
+        3 => fill(s, b"refused 3: code not listed", v, out),
+        4 => fill(s, b"refused 4: a program type, software form, entry type, entry length or time field outside the list", v, out),
+        _ => fill(s, b"refused", v, out),
+    }
+}
+
+// The text of an answer.
+fn compose(answer: Frame, s: &[u8], out: &mut [u8]) -> usize
+    requires { ⌜ length (composed (now s) (pattern (meaning (now s) answer)) (numbers (length (now s)) answer) 0) ≤ length (now out) ⌝ }
+    ensures { λ r. ⌜ Added (composed (now (s .entry)) (pattern (meaning (now (s .entry)) answer)) (numbers (length (now (s .entry))) answer) 0) 0 (now (out .entry)) r (now (out .exit)) ⌝ }
+{
+    let v = numbers(answer, s.len());
+    match answer {
+        Frame::MemoryLoadTransfer { .. } => fill(s, b"0 memory load with transfer: number #, address @, data %, transfer address @", &v, out),
+        Frame::MemoryLoad { .. } => fill(s, b"2 memory load: number #, address @, data %", &v, out),
+        Frame::RequestProgram { .. } => fill(s, b"8 request program: device #, format #, program type ?, software form !, software id %, processor #, info %", &v, out),
+        Frame::RequestLoad { .. } => fill(s, b"10 request memory load: number #, error #", &v, out),
+        Frame::RequestDump { .. } => fill(s, b"4 request memory dump: address @, count #", &v, out),
+        Frame::RequestDumpService { .. } => fill(s, b"12 request dump service: device #, format #, memory size #, compatibility #, info %", &v, out),
+        Frame::DumpData { .. } => fill(s, b"14 memory dump data: address @, data %", &v, out),
+        Frame::DumpComplete => fill(s, b"1 dump complete", &v, out),
+        Frame::Volunteer => fill(s, b"3 assistance volunteer", &v, out),
+        Frame::Parameters { .. } => fill(s, b"20 parameter load with transfer: number #, entries %, transfer address @", &v, out),
+        Frame::LoopData { .. } => fill(s, b"24 loop data: receipt #, data %", &v, out),
+        Frame::LoopedData { .. } => fill(s, b"26 looped data: receipt #, data %", &v, out),
+        Frame::Refused(n) => reason(n, s, &v, out),
+    }
 }

@@ -340,3 +340,40 @@ pub wrote : (m : Message) (out f : List ℕ) {answer : Written} {buffer : List �
     → Came (write m out) answer buffer
 unfolding write
 wrote m out f c e l = rw (l, ← e) c
+
+-- a refusal has a number of its own, never 0
+Numbered : Reading → Type 0
+Numbered (refused n) = eqb n 0 ≡ false
+Numbered (message m) = Unit {0}
+
+numbered-fields : (code : ℕ) (s : List ℕ) → Numbered (fields code s)
+unfolding fields Numbered
+numbered-fields code s =
+    by-cases Numbered (eqb code 0) (λ _. tt) (λ _.
+    by-cases Numbered (eqb code 2) (λ _. tt) (λ _.
+    by-cases Numbered (eqb code 8) (λ _. program) (λ _.
+    by-cases Numbered (eqb code 10) (λ _. tt) (λ _.
+    by-cases Numbered (eqb code 4) (λ _. tt) (λ _.
+    by-cases Numbered (eqb code 12) (λ _. tt) (λ _.
+    by-cases Numbered (eqb code 14) (λ _. tt) (λ _.
+    by-cases Numbered (eqb code 1) (λ _. tt) (λ _.
+    by-cases Numbered (eqb code 3) (λ _. tt) (λ _.
+    by-cases Numbered (eqb code 20) (λ _. by-cases Numbered (eqb (ended (walk Kind (drop 2 s))) 0) (λ _. tt) (λ e. e)) (λ _.
+    by-cases Numbered (eqb code 24) (λ _. tt) (λ _.
+    by-cases Numbered (eqb code 26) (λ _. tt) (λ _. refl))))))))))))
+  where
+    program : Numbered (requestProgramFields s)
+    program =
+        by-cases Numbered (programListed (byte s 3)) (λ _.
+        by-cases Numbered (formListed (byte s 4)) (λ _.
+        by-cases Numbered (ltb (length s) (6 + idLength (byte s 4))) (λ _. refl) (λ _. tt)) (λ _. refl)) (λ _. refl)
+
+pub refused-some : (s : List ℕ) (n : ℕ) → read s ≡ refused n → eqb n 0 ≡ false
+unfolding read Numbered
+refused-some s n e =
+    let code = byte s 0 in
+    subst Numbered e
+    (by-cases Numbered (eqb (length s) 0) (λ _. refl) (λ _.
+    by-cases Numbered (ltb 0 (least code)) (λ _.
+    by-cases Numbered (ltb (length s) (least code)) (λ _. refl) (λ _.
+    by-cases Numbered (ltb (most code) (length s)) (λ _. refl) (λ _. numbered-fields code s))) (λ _. refl)))

@@ -1,3 +1,6 @@
+use mathlib.Core.Path.{refl}
+use lib.ListN.{replicate}
+use Rattle.listing.specs.Over.{decimal-cut}
 use borrow.Author.Needs.{needs}
 use Rattle.listing.proofs.decimal.Statement.{statement}
 use Rattle.listing.proofs.decimal.Tie as tie
@@ -37,7 +40,9 @@ part-add-end c = search needs
 
 -- src/lib.rt:144:5
 add-requires : tie.Need-add-requires
-add-requires c κs = ?
+add-requires c κs = 
+    let n = c .before .before .before .before .before .before .before .before .before .args .n in
+    rw (decimal-cut n (c .before .before .before .zeros .result) (c .before .before .before .before .before .before .spell .last .1 .1 .1 .0) (replicate 10 0) refl (c .before .before .before .before .before .before .spell .ensures) (c .before .before .before .zeros .ensures .1)) (c .before .before .before .before .before .before .before .before .before .pre)
 
 -- src/lib.rt:137:1
 same-length : tie.Need-same-length
@@ -45,7 +50,9 @@ same-length c = search needs
 
 -- src/lib.rt:137:1
 returns : tie.Need-returns
-returns c = ?
+returns c = 
+    let n = c .before .before .before .before .before .before .before .before .before .before .before .before .args .n in
+    rw (decimal-cut n (c .before .before .before .before .before .before .zeros .result) (c .before .before .before .before .before .before .before .before .before .spell .last .1 .1 .1 .0) (replicate 10 0) refl (c .before .before .before .before .before .before .before .before .before .spell .ensures) (c .before .before .before .before .before .before .zeros .ensures .1)) at (c .before .before .add .ensures)
 
 pub decimal-spec : {M : Type 1} → statement M
 decimal-spec =

@@ -1,0 +1,17 @@
+use borrow.Author.Needs.{needs}
+use Rattle.fields.proofs.placed.Statement.{statement}
+use Rattle.fields.proofs.placed.Tie as tie
+use Rattle.fields.proofs.placed.Reads as reads
+use Rattle.fields.proofs.placed.Lts as lts
+use Rattle.fields.proofs.gap.Reads as gap-reads
+
+-- src/lib.rt:83:5
+gap-requires : tie.Need-gap-requires
+gap-requires c κs = search needs
+
+-- src/lib.rt:78:1
+returns : tie.Need-returns
+returns c = rw (c .gap .ensures)
+
+pub placed-spec : {M : Type 1} → statement M
+placed-spec = tie.close (tie.spec gap-requires returns)
