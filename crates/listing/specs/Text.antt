@@ -114,7 +114,7 @@ isMark c = eqb c 35 || eqb c 64 || eqb c 37 || eqb c 63 || eqb c 33
 -- a pattern with each mark replaced by the next of the values
 unfoldable pub filled : List ℕ → List (List ℕ) → List ℕ
 filled [] values = []
-filled (c ∷ rest) values = pick (isMark c) (getD values 0 [] ++ filled rest (drop 1 values)) (c ∷ filled rest values)
+filled (c ∷ rest) values = pick (isMark c) (getD values 0 []) (c ∷ []) ++ filled rest (drop (pick (isMark c) 1 0) values)
 
 unfoldable pub text : Reading → List ℕ
 text reading = filled (pattern reading) (values reading)

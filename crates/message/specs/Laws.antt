@@ -22,7 +22,7 @@ use Rattle.entries.specs.Entries.{walk}
 use Rattle.entries.specs.Laws.{walk-ended, accepted}
 use Rattle.message.specs.Message.{Message, Row, rows, memoryLoadTransfer, memoryLoad, requestProgram, requestLoad, requestDump, requestDumpService, dumpData, dumpComplete, volunteer, parameters, loopData, loopedData, least, leastIn, exact, programListed, formListed, idLength}
 use Rattle.message.specs.Read.{Reading, refused, message, byte, word, lastWord, memoryLoadTransferFields, memoryLoadFields, withId, requestProgramFields, requestLoadFields, requestDumpFields, requestDumpServiceFields, dumpDataFields, ended, parametersFields, loopDataFields, loopedDataFields, most, fields, frame, read}
-use Rattle.message.specs.Write.{layout, whole, idFits, listed, write}
+use Rattle.message.specs.Write.{layout, whole, idFits, listed, write, sent}
 
 -- the fields of several bytes fit their sizes
 abbrev pub Sized : Message → Type 0
@@ -377,3 +377,9 @@ refused-some s n e =
     by-cases Numbered (ltb 0 (least code)) (λ _.
     by-cases Numbered (ltb (length s) (least code)) (λ _. refl) (λ _.
     by-cases Numbered (ltb (most code) (length s)) (λ _. refl) (λ _. numbered-fields code s))) (λ _. refl)))
+
+-- a listed message of at most 1,500 bytes is sent by its writer
+pub write-sent : (m : Message) (reply : List ℕ) → listed m ≡ true → length (layout m) ≤ 1500 → 1500 ≤ length reply → write m reply ≡ sent m reply
+unfolding write
+write-sent m reply l h r =
+    rw (l, le-ltb 1500 (length (layout m)) h, le-ltb (length reply) (length (layout m)) (le-trans h r))

@@ -2,10 +2,10 @@
 use Prim.Native.Nat.{ℕ}
 use mathlib.Core.Bool.{Bool, true, false, _&&_, cond as pick}
 use mathlib.Core.List.{List, [], _∷_, _++_}
-use lib.ListN.{length}
+use lib.ListN.{length, drop}
 use lib.Dec.{eqb}
 use Rattle.octets.specs.Number.{low}
-use Rattle.octets.specs.Lay.{Output, refuse, laid}
+use Rattle.octets.specs.Lay.{Output, written, refuse, laid}
 use Rattle.entries.specs.declared.Place.{Place}
 use Rattle.entries.specs.declared.Place.the-variants.{Kind, Size, Value, Time, Transfer, Outside, Excess}
 use Rattle.entries.specs.Entries.{walk}
@@ -60,3 +60,8 @@ listed (loopedData receipt bytes) = true
 unfoldable pub write : Message → List ℕ → Output
 unfolding layout
 write m out = pick (listed m) (laid (layout m) out) (refuse 4 out)
+
+-- an end's frame in its reply buffer, which always has room for one: the frame, then what stood behind it
+abbrev pub sent : Message → List ℕ → Output
+sent m reply =
+    record { answer = written (length (layout m)); buffer = layout m ++ drop (length (layout m)) reply }
