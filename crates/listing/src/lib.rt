@@ -352,25 +352,24 @@ fn reason(n: u8, s: &[u8], v: &[usize], out: &mut [u8]) -> usize
     }
 }
 
-// The text of an answer.
-fn compose(answer: Frame, s: &[u8], out: &mut [u8]) -> usize
-    requires { ⌜ length (composed (now s) (pattern (meaning (now s) answer)) (numbers (length (now s)) answer) 0) ≤ length (now out) ⌝ }
-    ensures { λ r. ⌜ Added (composed (now (s .entry)) (pattern (meaning (now (s .entry)) answer)) (numbers (length (now (s .entry))) answer) 0) 0 (now (out .entry)) r (now (out .exit)) ⌝ }
+// The text of an answer, with its numbers.
+fn compose(answer: Frame, s: &[u8], v: &[usize], out: &mut [u8]) -> usize
+    requires { ⌜ length (composed (now s) (pattern (meaning (now s) answer)) (now v) 0) ≤ length (now out) ⌝ }
+    ensures { λ r. ⌜ Added (composed (now (s .entry)) (pattern (meaning (now (s .entry)) answer)) (now (v .entry)) 0) 0 (now (out .entry)) r (now (out .exit)) ⌝ }
 {
-    let v = numbers(answer, s.len());
     match answer {
-        Frame::MemoryLoadTransfer { .. } => fill(s, b"0 memory load with transfer: number #, address @, data %, transfer address @", &v, out),
-        Frame::MemoryLoad { .. } => fill(s, b"2 memory load: number #, address @, data %", &v, out),
-        Frame::RequestProgram { .. } => fill(s, b"8 request program: device #, format #, program type ?, software form !, software id %, processor #, info %", &v, out),
-        Frame::RequestLoad { .. } => fill(s, b"10 request memory load: number #, error #", &v, out),
-        Frame::RequestDump { .. } => fill(s, b"4 request memory dump: address @, count #", &v, out),
-        Frame::RequestDumpService { .. } => fill(s, b"12 request dump service: device #, format #, memory size #, compatibility #, info %", &v, out),
-        Frame::DumpData { .. } => fill(s, b"14 memory dump data: address @, data %", &v, out),
-        Frame::DumpComplete => fill(s, b"1 dump complete", &v, out),
-        Frame::Volunteer => fill(s, b"3 assistance volunteer", &v, out),
-        Frame::Parameters { .. } => fill(s, b"20 parameter load with transfer: number #, entries %, transfer address @", &v, out),
-        Frame::LoopData { .. } => fill(s, b"24 loop data: receipt #, data %", &v, out),
-        Frame::LoopedData { .. } => fill(s, b"26 looped data: receipt #, data %", &v, out),
-        Frame::Refused(n) => reason(n, s, &v, out),
+        Frame::MemoryLoadTransfer { .. } => fill(s, b"0 memory load with transfer: number #, address @, data %, transfer address @", v, out),
+        Frame::MemoryLoad { .. } => fill(s, b"2 memory load: number #, address @, data %", v, out),
+        Frame::RequestProgram { .. } => fill(s, b"8 request program: device #, format #, program type ?, software form !, software id %, processor #, info %", v, out),
+        Frame::RequestLoad { .. } => fill(s, b"10 request memory load: number #, error #", v, out),
+        Frame::RequestDump { .. } => fill(s, b"4 request memory dump: address @, count #", v, out),
+        Frame::RequestDumpService { .. } => fill(s, b"12 request dump service: device #, format #, memory size #, compatibility #, info %", v, out),
+        Frame::DumpData { .. } => fill(s, b"14 memory dump data: address @, data %", v, out),
+        Frame::DumpComplete => fill(s, b"1 dump complete", v, out),
+        Frame::Volunteer => fill(s, b"3 assistance volunteer", v, out),
+        Frame::Parameters { .. } => fill(s, b"20 parameter load with transfer: number #, entries %, transfer address @", v, out),
+        Frame::LoopData { .. } => fill(s, b"24 loop data: receipt #, data %", v, out),
+        Frame::LoopedData { .. } => fill(s, b"26 looped data: receipt #, data %", v, out),
+        Frame::Refused(n) => reason(n, s, v, out),
     }
 }

@@ -200,55 +200,55 @@ few-requires-11 c κs = search needs
 
 -- src/lib.rt:290:1
 returns : tie.Need-returns
-returns c = ?
+returns c = rw (c .few .ensures, c .before .before .answer .given .1)
 
 -- src/lib.rt:290:1
 returns-2 : tie.Need-returns-2
-returns-2 c = ?
+returns-2 c = rw (c .few2 .ensures, c .before .before .answer2 .given .1)
 
 -- src/lib.rt:290:1
 returns-3 : tie.Need-returns-3
-returns-3 c = ?
+returns-3 c = rw (c .after .ensures, c .before .before .answer3 .given .1)
 
 -- src/lib.rt:290:1
 returns-4 : tie.Need-returns-4
-returns-4 c = ?
+returns-4 c = rw (c .few3 .ensures, c .before .before .answer4 .given .1)
 
 -- src/lib.rt:290:1
 returns-5 : tie.Need-returns-5
-returns-5 c = ?
+returns-5 c = rw (c .few4 .ensures, c .before .before .answer5 .given .1)
 
 -- src/lib.rt:290:1
 returns-6 : tie.Need-returns-6
-returns-6 c = ?
+returns-6 c = rw (c .before .answer6 .given .1)
 
 -- src/lib.rt:290:1
 returns-7 : tie.Need-returns-7
-returns-7 c = ?
+returns-7 c = rw (c .few5 .ensures, c .before .before .answer7 .given .1)
 
 -- src/lib.rt:290:1
 returns-8 : tie.Need-returns-8
-returns-8 c = ?
+returns-8 c = rw (c .few6 .ensures, c .before .enum-told .given .1)
 
 -- src/lib.rt:290:1
 returns-9 : tie.Need-returns-9
-returns-9 c = ?
+returns-9 c = rw (c .few7 .ensures, c .before .enum-told2 .given .1)
 
 -- src/lib.rt:290:1
 returns-10 : tie.Need-returns-10
-returns-10 c = ?
+returns-10 c = rw (c .few8 .ensures, c .before .before .answer8 .given .1)
 
 -- src/lib.rt:290:1
 returns-11 : tie.Need-returns-11
-returns-11 c = ?
+returns-11 c = rw (c .few9 .ensures, c .before .before .answer9 .given .1)
 
 -- src/lib.rt:290:1
 returns-12 : tie.Need-returns-12
-returns-12 c = ?
+returns-12 c = rw (c .few10 .ensures, c .before .before .answer10 .given .1)
 
 -- src/lib.rt:290:1
 returns-13 : tie.Need-returns-13
-returns-13 c = ?
+returns-13 c = rw (c .few11 .ensures, c .before .enum-told3 .given .1)
 
 pub numbers-spec : {M : Type 1} → statement M
 numbers-spec =
