@@ -1,0 +1,4 @@
+pub mod Model
+pub mod Parts
+pub mod Flight
+pub mod Invariant
