@@ -36,19 +36,19 @@ module _ (s : LoadSettings) (ms : MachineSettings) (file old : List ℕ) (ok : c
   abbrev S : ℕ
   S = s .«segment_size»
 
-  abbrev R : ℕ
+  abbrev pub R : ℕ
   R = s .repeats
 
-  abbrev N : ℕ
+  abbrev pub N : ℕ
   N = many (s .«segment_size») (regions file)
 
-  abbrev address : ℕ → ℕ
+  abbrev pub address : ℕ → ℕ
   address i = segmentOf file (s .«segment_size») i .address
 
-  abbrev bytes : ℕ → List ℕ
+  abbrev pub bytes : ℕ → List ℕ
   bytes i = segmentOf file (s .«segment_size») i .bytes
 
-  abbrev t : ℕ
+  abbrev pub t : ℕ
   t = trailer file .transfer
 
   abbrev fits-in : ℕ → Bool
@@ -66,7 +66,7 @@ module _ (s : LoadSettings) (ms : MachineSettings) (file old : List ℕ) (ok : c
   P k = layout (said k)
 
   -- the machine end after m answers
-  abbrev At : ℕ → End
+  abbrev pub At : ℕ → End
   At m = record { machine = machineAt N address bytes t old m; memory = laid N address bytes t old m }
 
   abbrev session : ℕ → ℕ → ℕ → ℕ → Session

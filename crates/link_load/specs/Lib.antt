@@ -2,3 +2,4 @@ pub mod Model
 pub mod Parts
 pub mod Flight
 pub mod Invariant
+pub mod Theorem
