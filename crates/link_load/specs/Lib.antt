@@ -3,3 +3,4 @@ pub mod Parts
 pub mod Flight
 pub mod Invariant
 pub mod Theorem
+pub mod Regions
