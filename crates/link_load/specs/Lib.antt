@@ -4,3 +4,4 @@ pub mod Flight
 pub mod Invariant
 pub mod Theorem
 pub mod Regions
+pub mod Audit

@@ -126,7 +126,7 @@ module _ (file : List ℕ) (S : ℕ) where
         let room = parts-room r n (parts S r) s inside (omega arith) (omega (arith, f 0 one)) f in
         omega (arith, ap length (joined-whole file S r s), length-bytes file r inside, room)
 
-    all-fit : (end : ℕ) (rs : List Region) (n : ℕ) → entriesRefusal directory end rs ≡ 0 → SegmentsFit rs n → AllFit rs n
+    pub all-fit : (end : ℕ) (rs : List Region) (n : ℕ) → entriesRefusal directory end rs ≡ 0 → SegmentsFit rs n → AllFit rs n
     unfolding AllFit
     all-fit end [] n e f = tt
     all-fit end (r ∷ rs) n e f =

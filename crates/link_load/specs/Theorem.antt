@@ -9,7 +9,7 @@ use native.Mathlib.Nat.{mul-le-mul-right, add-mul}
 use native.Mathlib.Numerals.{add-one}
 use lib.ListN.{length}
 use lib.Dec.{eqb, leb, ltb}
-use borrow.Author.Tests.{eq-eqb, ne-eqb, eqb-true, eqb-false, le-leb, lt-ltb, le-ltb}
+use borrow.Author.Tests.{eq-eqb, ne-eqb, eqb-true, eqb-false, ltb-true, ltb-false}
 use Rattle.octets.specs.Number.{Octets}
 use Rattle.octets.specs.Cases.{by-cases}
 use Rattle.image.specs.Image.{trailer, regions, many, segmentOf, cutRefusal, demand, widest, refusal}
@@ -27,13 +27,17 @@ use Rattle.link_load.specs.Invariant.{Stage, waits, runs, finished, reje
 -- What the host's record says of the machine end: waiting, the first 0 are in; rejected, the first c; finished, the first N;
 -- otherwise the first c, or the first c + 1. Frames sent is the number of host frames that the link took.
 pub record Report (s : LoadSettings) (file old : List ℕ) (w : World Session End) : Type 0 where
-  pub waiting : w .host .waiting ≡ 1 → FirstIn file (s .«segment_size») old 0 (w .machine)
+  pub waiting : w .host .waiting ≡ 1 → FirstIn file (s .«segment_size») old 0 (w .machine) × (w .host .verdict ≡ 0)
   pub rejected : w .host .verdict ≡ 2 → FirstIn file (s .«segment_size») old (w .host .position) (w .machine)
   pub finished : w .host .verdict ≡ 1 → FirstIn file (s .«segment_size») old (many (s .«segment_size») (regions file)) (w .machine)
-  pub otherwise : w .host .waiting ≡ 0 → (w .host .verdict ≡ 1 → ⊥) → (w .host .verdict ≡ 2 → ⊥)
+  pub otherwise : (w .host .waiting ≡ 1 → ⊥) → (w .host .verdict ≡ 1 → ⊥) → (w .host .verdict ≡ 2 → ⊥)
       → FirstIn file (s .«segment_size») old (w .host .position) (w .machine) ⊎ FirstIn file (s .«segment_size») old (w .host .position + 1) (w .machine)
   pub counted : w .host .sent ≡ w .taken
   pub bounded : w .host .sent ≤ many (s .«segment_size») (regions file) * (s .repeats + 1)
+  -- where each verdict stands
+  pub rejected-at : w .host .verdict ≡ 2 → w .host .position < many (s .«segment_size») (regions file)
+  pub given-up-at : w .host .verdict ≡ 3 → w .host .position + 1 < many (s .«segment_size») (regions file)
+  pub unconfirmed-at : w .host .verdict ≡ 4 → w .host .position + 1 ≡ many (s .«segment_size») (regions file)
 
 module _ (s : LoadSettings) (ms : MachineSettings) (file old : List ℕ) (ok : cutRefusal file (s .«segment_size») ≡ 0) (o : Octets file) where
   abbrev In : ℕ → End → Type 0
@@ -116,28 +120,32 @@ module _ (s : LoadSettings) (ms : MachineSettings) (file old : List ℕ) (ok : c
       go m p x waits h =
           let z : m ≡ 0 = omega (arith, h .lower) in
           record {
-            waiting = λ _. at m (h .end-is) 0 (rw z (in-all 0 (omega arith) (λ i l. absurd (omega arith))));
-            rejected = λ e. absurd (omega (arith, e)); finished = λ e. absurd (omega (arith, e)); otherwise = λ e. absurd (omega (arith, e));
-            counted = h .counted; bounded = omega arith
+            waiting = λ _. (at m (h .end-is) 0 (rw z (in-all 0 (omega arith) (λ i l. absurd (omega arith)))), refl);
+            rejected = λ e. absurd (omega (arith, e)); finished = λ e. absurd (omega (arith, e)); otherwise = λ q. absurd (q refl);
+            counted = h .counted; bounded = omega arith;
+            rejected-at = λ q. absurd (omega (arith, q)); given-up-at = λ q. absurd (omega (arith, q)); unconfirmed-at = λ q. absurd (omega (arith, q))
           }
       go m p x (runs c r k hc hr hk) h =
           record {
             waiting = λ e. absurd (omega (arith, e)); rejected = λ e. absurd (omega (arith, e)); finished = λ e. absurd (omega (arith, e));
             otherwise = λ _ _ _. rw (h .end-is) (on-way m c hc (omega (arith, h .upper)) (h .lower) (h .fitting));
-            counted = h .counted; bounded = within c r k hc hr hk
+            counted = h .counted; bounded = within c r k hc hr hk;
+            rejected-at = λ q. absurd (omega (arith, q)); given-up-at = λ q. absurd (omega (arith, q)); unconfirmed-at = λ q. absurd (omega (arith, q))
           }
       go m p x (finished c k e hk) h =
           let z : m ≡ n = omega (arith, h .upper, h .few) in
           record {
             waiting = λ q. absurd (omega (arith, q)); rejected = λ q. absurd (omega (arith, q));
             finished = λ _. at m (h .end-is) n (rw z (in-all n (omega arith) (λ i l. h .fitting i (omega (arith, e)))));
-            otherwise = λ _ q _. absurd (q refl); counted = h .counted; bounded = subst (λ (x : ℕ). k ≤ x * (s .repeats + 1)) e hk
+            otherwise = λ _ q _. absurd (q refl); counted = h .counted; bounded = subst (λ (x : ℕ). k ≤ x * (s .repeats + 1)) e hk;
+            rejected-at = λ q. absurd (omega (arith, q)); given-up-at = λ q. absurd (omega (arith, q)); unconfirmed-at = λ q. absurd (omega (arith, q))
           }
       go m p x (rejected c r k hc out hr hk) h =
           record {
             waiting = λ q. absurd (omega (arith, q)); finished = λ q. absurd (omega (arith, q));
             rejected = λ _. at m (h .end-is) c (still (on-way m c hc (omega (arith, h .upper)) (h .lower) (h .fitting)));
-            otherwise = λ _ _ q. absurd (q refl); counted = h .counted; bounded = within c r k hc hr hk
+            otherwise = λ _ _ q. absurd (q refl); counted = h .counted; bounded = within c r k hc hr hk;
+            rejected-at = λ _. hc; given-up-at = λ q. absurd (omega (arith, q)); unconfirmed-at = λ q. absurd (omega (arith, q))
           }
         where
           -- segment c does not fit, so it is not in
@@ -148,18 +156,29 @@ module _ (s : LoadSettings) (ms : MachineSettings) (file old : List ℕ) (ok : c
           record {
             waiting = λ q. absurd (omega (arith, q)); rejected = λ q. absurd (apart 2 q (omega arith)); finished = λ q. absurd (apart 1 q (omega arith));
             otherwise = λ _ _ _. rw (h .end-is) (on-way m c hc (omega (arith, h .upper)) (h .lower) (h .fitting));
-            counted = h .counted; bounded = within c r k hc hr hk
+            counted = h .counted; bounded = within c r k hc hr hk;
+            rejected-at = λ q. absurd (apart 2 q (omega arith)); given-up-at = ends-early; unconfirmed-at = ends-last
           }
         where
           -- the verdict is 3 or 4
           least : 3 ≤ v
           least = rw e (by-cases (λ (y : ℕ). 3 ≤ y) (ltb (c + 1) n) (λ _. omega arith) (λ _. omega arith))
 
+          ends-early : v ≡ 3 → c + 1 < n
+          ends-early q =
+              by-cases (λ (y : ℕ). y ≡ 3 → c + 1 < n) (ltb (c + 1) n) (λ b _. ltb-true (c + 1) n b) (λ _ z. absurd (omega (arith, z))) (sym e ∙ q)
+
+          ends-last : v ≡ 4 → c + 1 ≡ n
+          ends-last q =
+              by-cases (λ (y : ℕ). y ≡ 4 → c + 1 ≡ n) (ltb (c + 1) n) (λ _ z. absurd (omega (arith, z))) (λ b _. omega (arith, ltb-false (c + 1) n b, hc)) (sym e ∙ q)
+
           apart : (y : ℕ) → v ≡ y → y < 3 → ⊥
           apart y q l = omega (arith, least)
 
+  -- every world that a run reaches has the invariant
+  pub reached : (es : List Event) → Inv s ms file old ok o (run (loadEnds s ms file) (freshWorld ms old) es)
+  reached es = always (loadEnds s ms file) (Inv s ms file old ok o) (closed s ms file old ok o) (freshWorld ms old) es (fresh-holds s ms file old ok o)
+
   -- The theorem: one claim over the whole list.
   pub reported : (es : List Event) → Report s file old (run (loadEnds s ms file) (freshWorld ms old) es)
-  reported es =
-      reports (run (loadEnds s ms file) (freshWorld ms old) es)
-      (always (loadEnds s ms file) (Inv s ms file old ok o) (closed s ms file old ok o) (freshWorld ms old) es (fresh-holds s ms file old ok o))
+  reported es = reports (run (loadEnds s ms file) (freshWorld ms old) es) (reached es)
