@@ -5,3 +5,4 @@ pub mod Invariant
 pub mod Theorem
 pub mod Regions
 pub mod Audit
+pub mod Records
