@@ -6,3 +6,4 @@ pub mod Theorem
 pub mod Regions
 pub mod Audit
 pub mod Records
+pub mod Example
