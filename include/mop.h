@@ -1,4 +1,4 @@
-/* mop.h: the proved reader, writers and image calls of Kochipurn, for C.
+/* mop.h: the proved reader, writers, image calls and ends of Kochipurn, for C.
  *
  * Link with libmop.a (make lib). Nothing here allocates, keeps state or
  * fails otherwise than by a refusal.
@@ -20,7 +20,8 @@
  *   7  an image entry breaks its own rule
  *   8  an image entry begins before the end of the one before
  *   9  the output buffer is too short
- *  10  a setting, or an index, is outside its range
+ *  10  a setting, a memory length, an index or a range is outside its
+ *      bounds, or a record is one that cannot be
  */
 #ifndef MOP_H
 #define MOP_H
@@ -181,6 +182,173 @@ typedef struct mop_segment {
  * segments. The cost grows with the number of regions only. */
 mop_segment mop_image_segment(const uint8_t *file, size_t file_length,
     uint32_t segment_size, uint64_t index);
+
+/* ---- The machine end ------------------------------------------------- */
+
+/* Its settings: the most bytes of a dump reply (1 to 1,495), its device and
+ * its processor. */
+typedef struct mop_machine_settings {
+    uint32_t dump_most;
+    uint8_t device;
+    uint8_t processor;
+} mop_machine_settings;
+
+/* Its state: 0 Idle, 1 Offering, 2 Requesting, 3 Loading, 4 Started. The
+ * expected number and the last error are Loading's, the transfer address is
+ * Started's; elsewhere they are 0. */
+typedef struct mop_machine {
+    uint32_t transfer;
+    uint8_t state;
+    uint8_t expected;
+    uint8_t error;
+} mop_machine;
+
+/* What a step gives: the next state, and the length of the frame that
+ * stands in the reply buffer to be sent, 0 for none, or a refusal. A
+ * refusal gives the state back as it came, and leaves memory and the reply
+ * buffer as they were. */
+typedef struct mop_machine_step {
+    mop_machine machine;
+    mop_written answer;
+} mop_machine_step;
+
+/* The start of a load (Requesting) and of a dump (Offering), each with its
+ * first frame: 10 for a setting or a memory length (at most 16,777,216)
+ * outside its range, then 9 for a reply buffer under 1,500 bytes. */
+mop_machine_step mop_machine_start_load(mop_machine_settings settings,
+    const uint8_t *memory, size_t memory_length,
+    uint8_t *reply, size_t reply_length);
+mop_machine_step mop_machine_start_dump(mop_machine_settings settings,
+    const uint8_t *memory, size_t memory_length,
+    uint8_t *reply, size_t reply_length);
+
+/* A frame has come: 10 (a state above 4 too), then 9, then the frame's own
+ * refusal (1 to 4). A load that fits goes into memory. */
+mop_machine_step mop_machine_frame(mop_machine_settings settings,
+    mop_machine machine, const uint8_t *frame, size_t frame_length,
+    uint8_t *memory, size_t memory_length,
+    uint8_t *reply, size_t reply_length);
+
+/* Its timer has run out: 10, then 9. */
+mop_machine_step mop_machine_timer(mop_machine_settings settings,
+    mop_machine machine, const uint8_t *memory, size_t memory_length,
+    uint8_t *reply, size_t reply_length);
+
+/* ---- The host's load ------------------------------------------------- */
+
+/* Its settings: the bytes of a segment (1 to 1,490), and the repeats
+ * allowed per frame (0 to 255). */
+typedef struct mop_load_settings {
+    uint32_t segment_size;
+    uint32_t repeats;
+} mop_load_settings;
+
+/* Its record: the segments answered, the frames sent, the repeats of the
+ * frame on its way, whether it still waits for a request (1) or not (0),
+ * and the verdict: 0 running, 1 finished, 2 rejected, 3 given up,
+ * 4 unconfirmed. Once the verdict is not 0 nothing changes any more. */
+typedef struct mop_load {
+    uint64_t position;
+    uint64_t sent;
+    uint32_t repeats;
+    uint8_t waiting;
+    uint8_t verdict;
+} mop_load;
+
+/* What a step gives: the next record, and the length of the frame to be
+ * sent, 0 for none, or a refusal with the record as it came. */
+typedef struct mop_load_step {
+    mop_load session;
+    mop_written answer;
+} mop_load_step;
+
+/* A record that waits for a machine's request. */
+mop_load mop_load_start(void);
+
+/* A frame has come, or the timer has run out. The image file stays the same
+ * over a load. Refusals: 10 for a setting or a bad record, 9 for a reply
+ * buffer under 1,500 bytes, 5 to 8 for the image, 10 for what of the record
+ * needs the number of segments, then the frame's own. */
+mop_load_step mop_load_frame(mop_load_settings settings, mop_load session,
+    const uint8_t *file, size_t file_length,
+    const uint8_t *frame, size_t frame_length,
+    uint8_t *reply, size_t reply_length);
+mop_load_step mop_load_timer(mop_load_settings settings, mop_load session,
+    const uint8_t *file, size_t file_length,
+    uint8_t *reply, size_t reply_length);
+
+/* ---- The host's dump ------------------------------------------------- */
+
+/* Its settings: length bytes (at least 1) from address on, with address +
+ * length at most 4,294,967,296; the most bytes asked for at a time (1 to
+ * 1,495); the repeats allowed per frame (0 to 255). */
+typedef struct mop_dump_settings {
+    uint64_t length;
+    uint32_t address;
+    uint32_t most;
+    uint32_t repeats;
+} mop_dump_settings;
+
+/* Its record: the bytes filled, the replies taken, the frames sent, the
+ * repeats of the frame on its way, whether it still waits for an offer (1)
+ * or not (0), and the verdict: 0 running, 1 finished, 3 given up. */
+typedef struct mop_dump {
+    uint64_t filled;
+    uint64_t replies;
+    uint64_t sent;
+    uint32_t repeats;
+    uint8_t waiting;
+    uint8_t verdict;
+} mop_dump;
+
+typedef struct mop_dump_step {
+    mop_dump session;
+    mop_written answer;
+} mop_dump_step;
+
+/* A record that waits for a machine's offer. */
+mop_dump mop_dump_start(void);
+
+/* A frame has come, or the timer has run out. The buffer has exactly the
+ * settings' length, and stays the same over a dump; a reply's bytes go into
+ * it from the reached place on. Refusals: 10, then 9, then the frame's. */
+mop_dump_step mop_dump_frame(mop_dump_settings settings, mop_dump session,
+    const uint8_t *frame, size_t frame_length,
+    uint8_t *buffer, size_t buffer_length,
+    uint8_t *reply, size_t reply_length);
+mop_dump_step mop_dump_timer(mop_dump_settings settings, mop_dump session,
+    const uint8_t *buffer, size_t buffer_length,
+    uint8_t *reply, size_t reply_length);
+
+/* ---- The host's loop test -------------------------------------------- */
+
+/* Its record: the frames sent, the repeats, and the verdict: 0 open, 1 the
+ * data came back as code 26, 2 it came back as code 24 (a plug), 3 given
+ * up. */
+typedef struct mop_loop {
+    uint64_t sent;
+    uint32_t repeats;
+    uint8_t verdict;
+} mop_loop;
+
+typedef struct mop_loop_step {
+    mop_loop session;
+    mop_written answer;
+} mop_loop_step;
+
+/* The start gives the record and the first frame. repeats (0 to 255),
+ * receipt and data (at most 1,497 bytes) stay the same over a test.
+ * Refusals: 10, then 9, then the frame's. */
+mop_loop_step mop_loop_start(uint32_t repeats, uint16_t receipt,
+    const uint8_t *data, size_t data_length,
+    uint8_t *reply, size_t reply_length);
+mop_loop_step mop_loop_frame(uint32_t repeats, uint16_t receipt,
+    const uint8_t *data, size_t data_length, mop_loop session,
+    const uint8_t *frame, size_t frame_length,
+    uint8_t *reply, size_t reply_length);
+mop_loop_step mop_loop_timer(uint32_t repeats, uint16_t receipt,
+    const uint8_t *data, size_t data_length, mop_loop session,
+    uint8_t *reply, size_t reply_length);
 
 #ifdef __cplusplus
 }

@@ -7,7 +7,12 @@
 #![forbid(unsafe_code)]
 
 mod cursor;
+pub mod dump;
 pub mod entries;
 pub mod frame;
 pub mod image;
+pub mod load;
+pub mod looping;
+pub mod machine;
 pub mod refusal;
+pub mod step;

@@ -21,7 +21,10 @@ pub const BAD_DIRECTORY: Refusal = 6;
 pub const BAD_REGION: Refusal = 7;
 /// A region begins before the end of the one before.
 pub const OUT_OF_ORDER: Refusal = 8;
-/// The output buffer is too short.
+/// The reply or output buffer is too short.
 pub const SMALL_BUFFER: Refusal = 9;
-/// A setting is outside its range.
+/// A setting, memory length, dump range, dump buffer or loop data is outside
+/// its range.
 pub const BAD_SETTING: Refusal = 10;
+/// A record or state that cannot be.
+pub const BAD_RECORD: Refusal = 10;

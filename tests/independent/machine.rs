@@ -1,0 +1,251 @@
+//! The machine end (paper 01, "Machine end"). Its memory is a slice, address
+//! 0 first.
+
+use crate::frame::{self, Frame};
+use crate::refusal::{BAD_RECORD, BAD_SETTING, Refusal};
+use crate::step::{Reply, Sent, check_most};
+
+/// D, the most bytes of a dump reply, is 1 to this.
+pub const DUMP_MOST: u32 = 1495;
+/// The longest memory.
+pub const MEMORY_MOST: usize = 16_777_216;
+
+const FORMAT: u8 = 1;
+const OPERATING_SYSTEM: u8 = 2;
+const STANDARD_SYSTEM: u8 = 255;
+const COMPATIBILITY: u8 = 0;
+
+#[derive(Clone, Copy, Debug)]
+pub struct Settings {
+    /// D, the most bytes of a dump reply.
+    pub dump_most: u32,
+    pub device: u8,
+    pub processor: u8,
+}
+
+#[derive(Clone, Copy, Debug, PartialEq, Eq)]
+pub enum State {
+    Idle,
+    /// Offers a dump.
+    Offering,
+    /// Requests a program.
+    Requesting,
+    /// The next number, and the error of the last reply.
+    Loading {
+        expected: u8,
+        error: u8,
+    },
+    Started {
+        transfer: u32,
+    },
+}
+
+impl State {
+    /// A state from its number and what it keeps; numbers that it does not
+    /// keep are dropped.
+    pub fn from_numbers(
+        state: u8,
+        expected: u8,
+        error: u8,
+        transfer: u32,
+    ) -> Result<Self, Refusal> {
+        match state {
+            0 => Ok(State::Idle),
+            1 => Ok(State::Offering),
+            2 => Ok(State::Requesting),
+            3 => Ok(State::Loading { expected, error }),
+            4 => Ok(State::Started { transfer }),
+            _ => Err(BAD_RECORD),
+        }
+    }
+}
+
+/// Starts a load: the fresh state and its first frame.
+pub fn start_load(
+    settings: Settings,
+    memory: &[u8],
+    reply: &mut [u8],
+) -> Result<(State, Sent), Refusal> {
+    start(State::Requesting, settings, memory, reply)
+}
+
+/// Starts a dump: the fresh state and its first frame.
+pub fn start_dump(
+    settings: Settings,
+    memory: &[u8],
+    reply: &mut [u8],
+) -> Result<(State, Sent), Refusal> {
+    start(State::Offering, settings, memory, reply)
+}
+
+fn start(
+    fresh: State,
+    settings: Settings,
+    memory: &[u8],
+    reply: &mut [u8],
+) -> Result<(State, Sent), Refusal> {
+    let sent = timer(settings, fresh, memory, reply)?;
+    Ok((fresh, sent))
+}
+
+/// A timer asks again for a program or a dump, and changes no state.
+pub fn timer(
+    settings: Settings,
+    state: State,
+    memory: &[u8],
+    reply: &mut [u8],
+) -> Result<Sent, Refusal> {
+    check(settings, memory)?;
+    let reply = Reply::new(reply)?;
+    Ok(match state {
+        State::Requesting => reply.send(&Frame::RequestProgram {
+            device: settings.device,
+            format: FORMAT,
+            program: OPERATING_SYSTEM,
+            form: STANDARD_SYSTEM,
+            id: &[],
+            processor: settings.processor,
+            info: &[],
+        }),
+        State::Offering => reply.send(&Frame::RequestDumpService {
+            device: settings.device,
+            format: FORMAT,
+            memory_size: memory.len() as u32,
+            compatibility: COMPATIBILITY,
+            info: &[],
+        }),
+        _ => None,
+    })
+}
+
+/// A frame has come.
+pub fn frame(
+    settings: Settings,
+    state: &mut State,
+    bytes: &[u8],
+    memory: &mut [u8],
+    reply: &mut [u8],
+) -> Result<Sent, Refusal> {
+    check(settings, memory)?;
+    let reply = Reply::new(reply)?;
+    let frame = frame::read(bytes)?;
+    Ok(match (frame, *state) {
+        (
+            Frame::Load {
+                number,
+                address,
+                data,
+            },
+            _,
+        ) => load(state, number, address, data, None, memory, reply),
+        (
+            Frame::LoadTransfer {
+                number,
+                address,
+                data,
+                transfer,
+            },
+            _,
+        ) => load(state, number, address, data, Some(transfer), memory, reply),
+        (Frame::RequestDump { address, count }, State::Idle | State::Offering) => {
+            let length = settings.dump_most.min(count.into()) as usize;
+            dump(address, length, memory, reply)
+        }
+        (Frame::DumpComplete, State::Offering) => {
+            *state = State::Idle;
+            None
+        }
+        (Frame::Loop { receipt, data }, State::Idle) => {
+            reply.send(&Frame::Looped { receipt, data })
+        }
+        _ => None,
+    })
+}
+
+fn check(settings: Settings, memory: &[u8]) -> Result<(), Refusal> {
+    check_most(settings.dump_most, DUMP_MOST)?;
+    if memory.len() > MEMORY_MOST {
+        return Err(BAD_SETTING);
+    }
+    Ok(())
+}
+
+/// Code 2, or code 0 with its transfer address.
+fn load(
+    state: &mut State,
+    number: u8,
+    address: u32,
+    data: &[u8],
+    transfer: Option<u32>,
+    memory: &mut [u8],
+    reply: Reply,
+) -> Sent {
+    match judge(*state, number) {
+        Number::Taken => {
+            let fits = deposit(address, data, memory);
+            let expected = number.wrapping_add(1);
+            let error = if fits { 0 } else { 1 };
+            *state = match transfer {
+                Some(transfer) if fits => State::Started { transfer },
+                _ => State::Loading { expected, error },
+            };
+            acknowledge(expected, error, reply)
+        }
+        Number::Repeated { expected, error } => acknowledge(expected, error, reply),
+        Number::Ignored => None,
+    }
+}
+
+/// What a load's number means to a state.
+enum Number {
+    Taken,
+    /// The one before the expected: the last reply goes out again.
+    Repeated {
+        expected: u8,
+        error: u8,
+    },
+    Ignored,
+}
+
+/// Number 0 is always taken where loads are, and never a repeat.
+fn judge(state: State, number: u8) -> Number {
+    match state {
+        State::Idle | State::Requesting | State::Loading { .. } if number == 0 => Number::Taken,
+        State::Loading { expected, .. } if number == expected => Number::Taken,
+        State::Loading { expected, error } if number == expected.wrapping_sub(1) => {
+            Number::Repeated { expected, error }
+        }
+        _ => Number::Ignored,
+    }
+}
+
+/// Puts data into memory if all of it fits, and says whether it did.
+fn deposit(address: u32, data: &[u8], memory: &mut [u8]) -> bool {
+    let start = address as usize;
+    let place = memory
+        .get_mut(start..)
+        .and_then(|rest| rest.get_mut(..data.len()));
+    match place {
+        Some(place) => {
+            place.copy_from_slice(data);
+            true
+        }
+        None => false,
+    }
+}
+
+fn acknowledge(number: u8, error: u8, reply: Reply) -> Sent {
+    reply.send(&Frame::RequestLoad { number, error })
+}
+
+/// Code 14; bytes beyond memory are 0.
+fn dump(address: u32, length: usize, memory: &[u8], reply: Reply) -> Sent {
+    let mut bytes = [0; DUMP_MOST as usize];
+    let there = memory.get(address as usize..).unwrap_or(&[]);
+    let count = length.min(there.len());
+    bytes[..count].copy_from_slice(&there[..count]);
+    reply.send(&Frame::DumpData {
+        address,
+        data: &bytes[..length],
+    })
+}
