@@ -1,0 +1,5 @@
+pub mod Model
+pub mod Window
+pub mod Invariant
+pub mod Theorem
+pub mod Example

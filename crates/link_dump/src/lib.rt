@@ -1,0 +1,1 @@
+// The link theorem for a dump: theorems alone (specs/).
