@@ -2,10 +2,40 @@
 //! reader, the image check and the segment call.
 //!
 //! Both get the same inputs in one run, in turns, and borrow what they read:
-//! neither allocates, and no buffer is written.
+//! neither allocates, and no buffer is written. Each is called directly, as a
+//! driver would call it.
 
 use std::hint::black_box;
 use std::time::{Duration, Instant};
+
+/// The header's calls. The functions of `mop_proved` are for the comparison:
+/// each is a further call, which picks null pointers for empty slices.
+mod proved {
+    use mop_proved::{Frame, Image, Segment};
+
+    unsafe extern "C" {
+        fn mop_read(frame: *const u8, length: usize) -> Frame;
+        fn mop_image_check(file: *const u8, length: usize, segment_size: u32) -> Image;
+        fn mop_image_segment(
+            file: *const u8,
+            length: usize,
+            segment_size: u32,
+            index: u64,
+        ) -> Segment;
+    }
+
+    pub fn read(frame: &[u8]) -> Frame {
+        unsafe { mop_read(frame.as_ptr(), frame.len()) }
+    }
+
+    pub fn image_check(file: &[u8], segment_size: u32) -> Image {
+        unsafe { mop_image_check(file.as_ptr(), file.len(), segment_size) }
+    }
+
+    pub fn image_segment(file: &[u8], segment_size: u32, index: u64) -> Segment {
+        unsafe { mop_image_segment(file.as_ptr(), file.len(), segment_size, index) }
+    }
+}
 
 /// Turns that each of the two gets; the medians are printed.
 const ROUNDS: usize = 401;
@@ -50,13 +80,13 @@ fn main() {
 fn read(name: &str, frames: &[Vec<u8>]) {
     for frame in frames {
         assert!(mop_plain::frame::read(frame).is_ok(), "a good frame");
-        assert_eq!(mop_proved::read(frame).refusal, 0, "a good frame");
+        assert_eq!(proved::read(frame).refusal, 0, "a good frame");
     }
     compare(
         name,
         frames,
         |frame| {
-            black_box(mop_proved::read(black_box(frame)));
+            black_box(proved::read(black_box(frame)));
         },
         |frame| {
             let _ = black_box(mop_plain::frame::read(black_box(frame)));
@@ -66,7 +96,7 @@ fn read(name: &str, frames: &[Vec<u8>]) {
 
 fn check(name: &str, file: &[u8]) {
     assert_eq!(
-        mop_proved::image_check(file, SEGMENT_SIZE).refusal,
+        proved::image_check(file, SEGMENT_SIZE).refusal,
         0,
         "a good image"
     );
@@ -74,7 +104,7 @@ fn check(name: &str, file: &[u8]) {
         name,
         &[file],
         |file| {
-            black_box(mop_proved::image_check(black_box(file), SEGMENT_SIZE));
+            black_box(proved::image_check(black_box(file), SEGMENT_SIZE));
         },
         |file| {
             let image = mop_plain::image::check(black_box(file), SEGMENT_SIZE);
@@ -85,17 +115,13 @@ fn check(name: &str, file: &[u8]) {
 
 /// Every segment in turn; each call checks the image too.
 fn segment(name: &str, file: &[u8]) {
-    let count = mop_proved::image_check(file, SEGMENT_SIZE).segments;
+    let count = proved::image_check(file, SEGMENT_SIZE).segments;
     let indexes: Vec<u64> = (0..count).collect();
     compare(
         name,
         &indexes,
         |&index| {
-            black_box(mop_proved::image_segment(
-                black_box(file),
-                SEGMENT_SIZE,
-                index,
-            ));
+            black_box(proved::image_segment(black_box(file), SEGMENT_SIZE, index));
         },
         |&index| {
             let image = mop_plain::image::check(black_box(file), SEGMENT_SIZE);

@@ -320,36 +320,6 @@ mop_dump_step mop_dump_timer(mop_dump_settings settings, mop_dump session,
     const uint8_t *buffer, size_t buffer_length,
     uint8_t *reply, size_t reply_length);
 
-/* ---- The host's loop test -------------------------------------------- */
-
-/* Its record: the frames sent, the repeats, and the verdict: 0 open, 1 the
- * data came back as code 26, 2 it came back as code 24 (a plug), 3 given
- * up. */
-typedef struct mop_loop {
-    uint64_t sent;
-    uint32_t repeats;
-    uint8_t verdict;
-} mop_loop;
-
-typedef struct mop_loop_step {
-    mop_loop session;
-    mop_written answer;
-} mop_loop_step;
-
-/* The start gives the record and the first frame. repeats (0 to 255),
- * receipt and data (at most 1,497 bytes) stay the same over a test.
- * Refusals: 10, then 9, then the frame's. */
-mop_loop_step mop_loop_start(uint32_t repeats, uint16_t receipt,
-    const uint8_t *data, size_t data_length,
-    uint8_t *reply, size_t reply_length);
-mop_loop_step mop_loop_frame(uint32_t repeats, uint16_t receipt,
-    const uint8_t *data, size_t data_length, mop_loop session,
-    const uint8_t *frame, size_t frame_length,
-    uint8_t *reply, size_t reply_length);
-mop_loop_step mop_loop_timer(uint32_t repeats, uint16_t receipt,
-    const uint8_t *data, size_t data_length, mop_loop session,
-    uint8_t *reply, size_t reply_length);
-
 #ifdef __cplusplus
 }
 #endif

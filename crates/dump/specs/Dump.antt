@@ -51,7 +51,7 @@ ends h verdict filled replies repeats buffer =
     record {
       session = record { filled = filled; replies = replies; sent = h .sent + 1; repeats = repeats; waiting = 0; verdict = verdict };
       buffer = buffer;
-      sending = sends dumpComplete
+      sending = sends dumpComplete;
     }
 
 -- a machine offers a dump: the first bytes are asked for

@@ -1,1 +1,3 @@
 pub mod Dump
+pub mod Inner
+pub mod Laws

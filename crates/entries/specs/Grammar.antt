@@ -39,7 +39,7 @@ known kind n =
     by-cases P (eqb kind 4) (λ e _. omega (arith, eqb-true kind 4 e)) (λ _.
     by-cases P (eqb kind 5) (λ e _. omega (arith, eqb-true kind 5 e)) (λ _ no. absurd (false≢true no))))))
 
-ten : (kind n : ℕ) → listed kind n ≡ true → kind ≡ 5 → n ≡ 10
+pub ten : (kind n : ℕ) → listed kind n ≡ true → kind ≡ 5 → n ≡ 10
 ten kind n l is5 = eqb-true n 10 (rw is5 at l)
 
 -- ---- entries are walked to their end
@@ -83,13 +83,17 @@ walk-content kind value rest l f =
     walk-time 0 0 value rest (omega arith) (omega (arith, ten kind (length value) l is5)) (f is5))
     (λ _. walk-value value rest)
 
+-- one entry, and what stands behind it
+pub walk-entry : (kind : ℕ) (value rest : List ℕ) → listed kind (length value) ≡ true → (kind ≡ 5 → Fields 0 0 value) → walk Kind (kind ∷ length value ∷ (value ++ rest)) ≡ walk Kind rest
+walk-entry kind value rest l f =
+    rw
+    (walk-cons, next-kind kind (length value) l, walk-cons, next-size kind (length value) l)
+    (walk-content kind value rest l f)
+
 pub walk-entries : {xs : List ℕ} → Entries xs → walk Kind xs ≡ Kind
 unfolding walk
 walk-entries none = refl
-walk-entries (entry kind value rest l f r) =
-    rw
-    (walk-cons, next-kind kind (length value) l, walk-cons, next-size kind (length value) l)
-    (walk-content kind value rest l f ∙ walk-entries r)
+walk-entries (entry kind value rest l f r) = walk-entry kind value rest l f ∙ walk-entries r
 
 -- ---- what is walked to the entries' end is entries
 -- A string in two parts, a value that is so and entries.

@@ -1,14 +1,15 @@
 -- Laws of the walk: over a string in parts, over a whole value, and what an accepted string is made of.
-use Prim.Native.Nat.{ℕ, suc, _+_, _-_, _≤_}
+use Prim.Native.Nat.{ℕ, suc, _+_, _-_, _<_, _≤_}
 use mathlib.Core.Bool.{Bool, true, false, cond as pick}
 use mathlib.Core.List.{List, [], _∷_, _++_}
 use mathlib.Core.Logic.{_⊎_, inl, inr, ⊎-elim}
 use mathlib.Core.Path.{_≡_, refl, ap, _∙_}
 use native.Mathlib.Omega.{arith}
+use native.Mathlib.Numerals.{add-one}
 use borrow.Author.Tests.{eqb-true, eqb-false, ne-eqb}
 use lib.Dec.{eqb, leb, eqb·suc-zero}
-use lib.ListN.{length, take, drop, length-append, take-append-drop}
-use lib.Seq.{length-take-le, take-at, drop-append-add}
+use lib.ListN.{length, getD, take, drop, length-append, take-append-drop}
+use lib.Seq.{length-take-le, take-at, drop-cons, drop-append-add}
 use Rattle.octets.specs.Cases.{by-cases}
 use Rattle.entries.specs.declared.Place.{Place}
 use Rattle.entries.specs.declared.Place.the-variants.{Kind, Size, Value, Time, Transfer, Outside, Excess}
@@ -19,6 +20,11 @@ pub walk-append : (p : Place) (a b : List ℕ) → walk p (a ++ b) ≡ walk (wal
 unfolding walk
 walk-append p [] b = refl
 walk-append p (x ∷ a) b = walk-append (next p x) a b
+
+-- the byte at a place, and those behind it
+pub walk-at : (p : Place) (s : List ℕ) (i : ℕ) → i < length s → walk p (drop i s) ≡ walk (next p (getD s i 0)) (drop (i + 1) s)
+unfolding walk
+walk-at p s i h = rw (add-one, drop-cons s i 0)
 
 -- ---- refusals stay
 walk-still : (p : Place) → ((b : ℕ) → next p b ≡ p) → (xs : List ℕ) → walk p xs ≡ p
@@ -52,10 +58,23 @@ skip n xs some fits =
     let cut = walk-value (take n xs) (drop n xs) in
     rw (take-append-drop, length-take-le n xs, ne-eqb n 0) at cut
 
-walk-transfer : (t : List ℕ) → walk (Transfer (length t)) t ≡ Transfer 0
+-- bytes of the transfer address, as far as n are to come
+pub walk-within : (n : ℕ) (t : List ℕ) → length t ≤ n → walk (Transfer n) t ≡ Transfer (n - length t)
 unfolding walk next
-walk-transfer [] = refl
-walk-transfer (x ∷ t) = rw (eqb·suc-zero (length t), one-less (length t)) (walk-transfer t)
+walk-within n [] h = ap Transfer (omega arith)
+walk-within n (x ∷ t) h =
+    let some : n ≡ 0 → ⊥ = omega arith in
+    rw (ne-eqb n 0 some) (walk-within (n - 1) t (omega arith) ∙ ap Transfer (omega arith))
+
+-- more bytes than that
+pub walk-beyond : (n : ℕ) (t : List ℕ) → n < length t → walk (Transfer n) t ≡ Excess
+unfolding walk next
+walk-beyond n [] h = absurd (omega arith)
+walk-beyond n (x ∷ t) h =
+    by-cases (λ (p : Place). walk p t ≡ Excess) (eqb n 0) (λ _. walk-excess t) (λ e. walk-beyond (n - 1) t (omega (arith, eqb-false n 0 e)))
+
+walk-transfer : (t : List ℕ) → walk (Transfer (length t)) t ≡ Transfer 0
+walk-transfer t = walk-within (length t) t (omega arith) ∙ ap Transfer (omega arith)
 
 -- ---- for a writer: entries, the end mark and four bytes are accepted
 pub walk-ended : (e t : List ℕ) → walk Kind e ≡ Kind → length t ≡ 4 → walk Kind (e ++ (0 ∷ t)) ≡ Transfer 0

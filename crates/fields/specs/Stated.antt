@@ -91,5 +91,5 @@ fielded s answer r =
     record {
       exact = flat-reads s (read s) answer r;
       says = stated-meaning s answer (r .within) (r .means) ∙ r .means;
-      inside = lies s answer (r .within)
+      inside = lies s answer (r .within);
     }

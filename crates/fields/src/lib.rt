@@ -7,7 +7,7 @@ ghost use Rattle.fields.specs.Flat.{flat};
 ghost use Rattle.fields.specs.Stated.{Fielded};
 use reader::Frame;
 
-// A frame's fields: mop_frame of the header.
+// A frame's fields; those that its code does not have are 0.
 #[repr(C)]
 pub struct Fields {
     pub data_at: usize,
@@ -126,7 +126,7 @@ fn dump_service(device: u8, format: u8, size: u32, compatibility: u8, n: usize) 
     f
 }
 
-// What the reader answered of a frame of n bytes.
+// What the reader answered of a frame of n bytes. Each arm returns by itself: answers that meet are slower.
 fn flat(n: usize, answer: Frame) -> Fields
     ensures { λ r. ⌜ r ≡ flat n answer ⌝ }
 {
@@ -136,9 +136,9 @@ fn flat(n: usize, answer: Frame) -> Fields
             address,
             end,
             transfer,
-        } => placed(plain(0, 0, number, 0, 0, 0, address, transfer), 6, end),
+        } => return placed(plain(0, 0, number, 0, 0, 0, address, transfer), 6, end),
         Frame::MemoryLoad { number, address } => {
-            placed(plain(0, 2, number, 0, 0, 0, address, 0), 6, n)
+            return placed(plain(0, 2, number, 0, 0, 0, address, 0), 6, n)
         }
         Frame::RequestProgram {
             device,
@@ -147,26 +147,26 @@ fn flat(n: usize, answer: Frame) -> Fields
             form,
             end,
             processor,
-        } => program(device, format, kind, form, processor, end, n),
-        Frame::RequestLoad { number, error } => plain(0, 10, number, error, 0, 0, 0, 0),
-        Frame::RequestDump { address, count } => plain(0, 4, 0, 0, count, 0, address, 0),
+        } => return program(device, format, kind, form, processor, end, n),
+        Frame::RequestLoad { number, error } => return plain(0, 10, number, error, 0, 0, 0, 0),
+        Frame::RequestDump { address, count } => return plain(0, 4, 0, 0, count, 0, address, 0),
         Frame::RequestDumpService {
             device,
             format,
             size,
             compatibility,
-        } => dump_service(device, format, size, compatibility, n),
-        Frame::DumpData { address } => placed(plain(0, 14, 0, 0, 0, 0, address, 0), 5, n),
-        Frame::DumpComplete => plain(0, 1, 0, 0, 0, 0, 0, 0),
-        Frame::Volunteer => plain(0, 3, 0, 0, 0, 0, 0, 0),
+        } => return dump_service(device, format, size, compatibility, n),
+        Frame::DumpData { address } => return placed(plain(0, 14, 0, 0, 0, 0, address, 0), 5, n),
+        Frame::DumpComplete => return plain(0, 1, 0, 0, 0, 0, 0, 0),
+        Frame::Volunteer => return plain(0, 3, 0, 0, 0, 0, 0, 0),
         Frame::Parameters {
             number,
             end,
             transfer,
-        } => placed(plain(0, 20, number, 0, 0, 0, 0, transfer), 2, end),
-        Frame::LoopData { receipt } => placed(plain(0, 24, 0, 0, 0, receipt, 0, 0), 3, n),
-        Frame::LoopedData { receipt } => placed(plain(0, 26, 0, 0, 0, receipt, 0, 0), 3, n),
-        Frame::Refused(refusal) => plain(refusal, 0, 0, 0, 0, 0, 0, 0),
+        } => return placed(plain(0, 20, number, 0, 0, 0, 0, transfer), 2, end),
+        Frame::LoopData { receipt } => return placed(plain(0, 24, 0, 0, 0, receipt, 0, 0), 3, n),
+        Frame::LoopedData { receipt } => return placed(plain(0, 26, 0, 0, 0, receipt, 0, 0), 3, n),
+        Frame::Refused(refusal) => return plain(refusal, 0, 0, 0, 0, 0, 0, 0),
     }
 }
 

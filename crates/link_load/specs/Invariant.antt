@@ -192,11 +192,21 @@ module _ (s : LoadSettings) (ms : MachineSettings) (file old : List ℕ) (ok : c
     -- the machine stands after m′ answers and sent the request or answer k
     moved : (m′ : ℕ) → m′ ≤ p → p ≤ m′ + 1 → m′ ≤ N → m ≤ m′ → Flight F (m′ - 1) (min p N) (f ∷ q)
         → Inv (machineTurn w (f ∷ q) (acts (At m′) (P m′ ∷ [])))
-    moved m′ l u n up down =
-        (m′, p, record {
-          lower = l; upper = u; few = n; fitting = h .fitting; stage = h .stage; end-is = refl; down = down;
-          up = then P m′ (omega arith) (omega arith) (h .up); counted = h .counted
-        })
+    moved m′ l u n up down = (
+      m′,
+      p,
+      record {
+        lower = l;
+        upper = u;
+        few = n;
+        fitting = h .fitting;
+        stage = h .stage;
+        end-is = refl;
+        down = down;
+        up = then P m′ (omega arith) (omega arith) (h .up);
+        counted = h .counted;
+      },
+    )
 
     -- segment m: it is the next
     on-new : front .number ≡ m → AfterAct (machine.react ms (machineAt N address bytes t old m) (load.segmentMessage file (s .«segment_size») (front .number)) (laid N address bytes t old m))
@@ -205,7 +215,7 @@ module _ (s : LoadSettings) (ms : MachineSettings) (file old : List ℕ) (ok : c
         let i = front .number in
         let below : i < min p N = front .below in
         let step = react-what N address bytes t old ms (machineAt N address bytes t old m) m (laid N address bytes t old m)
-            ∙ new N address bytes t old m (omega arith) (λ j g. h .fitting j (omega arith)) in
+        ∙ new N address bytes t old m (omega arith) (λ j g. h .fitting j (omega arith)) in
         let down : Flight F m (min p N) (f ∷ q) = subst (λ (k : ℕ). Flight F k (min p N) (f ∷ q)) e (front .whole) in
         rw e (subst AfterAct (sym step) (moved (suc m) (omega arith) (omega arith) (omega arith) (omega arith) (wider F (omega arith) (omega arith) down)))
 
@@ -216,12 +226,19 @@ module _ (s : LoadSettings) (ms : MachineSettings) (file old : List ℕ) (ok : c
     on-old i e g =
         let whole : Flight F (m - 1) (min p N) (f ∷ q) = wider F (front .from) (omega arith) (front .whole) in
         let kept : Holds m p (w .host) (At m) (f ∷ q) (w .toHost ++ []) (w .taken) =
-            record {
-              lower = h .lower; upper = h .upper; few = h .few; fitting = h .fitting; stage = h .stage; end-is = refl; down = whole;
-              up = rw (append-nil (w .toHost)) (h .up); counted = h .counted
-            } in
+        record {
+          lower = h .lower;
+          upper = h .upper;
+          few = h .few;
+          fitting = h .fitting;
+          stage = h .stage;
+          end-is = refl;
+          down = whole;
+          up = rw (append-nil (w .toHost)) (h .up);
+          counted = h .counted;
+        } in
         let answered : Inv (machineTurn w (f ∷ q) (acts (At m) (P m ∷ []))) =
-            moved m (h .lower) (h .upper) (h .few) (omega arith) whole in
+        moved m (h .lower) (h .upper) (h .few) (omega arith) whole in
         rw e (go answered kept)
       where
         go : Inv (machineTurn w (f ∷ q) (acts (At m) (P m ∷ []))) → Holds m p (w .host) (At m) (f ∷ q) (w .toHost ++ []) (w .taken)
@@ -275,7 +292,7 @@ module _ (s : LoadSettings) (ms : MachineSettings) (file old : List ℕ) (ok : c
 
   move-answer : (c r n : ℕ) → c < N → r ≤ R → n ≤ c * (R + 1) + 1 + r → (d e : Bool) → fits-in c ≡ d → eqb (c + 1) N ≡ e
       → Moved (suc c) (session c n r 0) (suc c)
-        (pick d (pick e (load.ends (session c n r 0) 1 (c + 1) 0) (load.goesOut (session c n r 0) (c + 1) 0)) (load.ends (session c n r 0) 2 c r))
+      (pick d (pick e (load.ends (session c n r 0) 1 (c + 1) 0) (load.goesOut (session c n r 0) (c + 1) 0)) (load.ends (session c n r 0) 2 c r))
   move-answer c r n hc hr hn true true f g =
       finishes (subst (λ (x : ℕ). Stage (suc x) (session (c + 1) n 0 1)) (add-one c)
       (finished (c + 1) n (eqb-true (c + 1) N g) (omega (arith, more-sent c))))
@@ -309,21 +326,41 @@ module _ (s : LoadSettings) (ms : MachineSettings) (file old : List ℕ) (ok : c
     quiet : (x : Session) (out : load.Sending) (rest : List Frame) → Stage p x → out ≡ load.nothing → x .sent ≡ w .host .sent
         → Flight P (p - 1) (m + 1) rest → Inv (hostTurn w rest (acts x (put-out out)))
     quiet x out rest g e n f =
-        rw e
-        (m, p, record {
-          lower = h .lower; upper = h .upper; few = h .few; fitting = h .fitting; stage = g; end-is = h .end-is;
-          down = rw (append-nil (w .toMachine)) (h .down); up = f; counted = omega (arith, n, h .counted)
-        })
+        rw e (
+          m,
+          p,
+          record {
+            lower = h .lower;
+            upper = h .upper;
+            few = h .few;
+            fitting = h .fitting;
+            stage = g;
+            end-is = h .end-is;
+            down = rw (append-nil (w .toMachine)) (h .down);
+            up = f;
+            counted = omega (arith, n, h .counted);
+          },
+        )
 
     -- the host comes to the next stage, after what was said as number k
     onward : (k : ℕ) (x : Session) (out : load.Sending) (rest : List Frame) → Stage (suc p) x → p ≤ k → k < m + 1 → ((i : ℕ) → i + 1 ≡ p → fits-in i ≡ true)
         → Flight F (m - 1) (min (suc p) N) (w .toMachine ++ put-out out) → x .sent ≡ w .taken + length (put-out out)
         → Flight P k (m + 1) rest → Inv (hostTurn w rest (acts x (put-out out)))
-    onward k x out rest g l b fit-there down n f =
-        (m, suc p, record {
-          lower = omega (arith, h .lower); upper = omega arith; few = h .few; fitting = fits-below; stage = g; end-is = h .end-is;
-          down = down; up = wider P (omega arith) (omega arith) f; counted = n
-        })
+    onward k x out rest g l b fit-there down n f = (
+      m,
+      suc p,
+      record {
+        lower = omega (arith, h .lower);
+        upper = omega arith;
+        few = h .few;
+        fitting = fits-below;
+        stage = g;
+        end-is = h .end-is;
+        down = down;
+        up = wider P (omega arith) (omega arith) f;
+        counted = n;
+      },
+    )
       where
         fits-below : (i : ℕ) → i + 1 < suc p → fits-in i ≡ true
         fits-below i less = go (eqb (i + 1) p) refl
@@ -357,12 +394,21 @@ module _ (s : LoadSettings) (ms : MachineSettings) (file old : List ℕ) (ok : c
 
     -- the segment on its way goes out again
     repeats : (c : ℕ) (x : Session) → p ≡ suc c → c < N → Stage p x → x .sent ≡ w .host .sent + 1 → Inv (hostTurn w (w .toHost) (acts x (F c ∷ [])))
-    repeats c x e below g n =
-        (m, p, record {
-          lower = h .lower; upper = h .upper; few = h .few; fitting = h .fitting; stage = g; end-is = h .end-is;
-          down = wider F (omega arith) (omega (arith, e)) (then F c (omega (arith, h .lower)) (omega (arith, e)) (h .down));
-          up = h .up; counted = omega (arith, n, h .counted)
-        })
+    repeats c x e below g n = (
+      m,
+      p,
+      record {
+        lower = h .lower;
+        upper = h .upper;
+        few = h .few;
+        fitting = h .fitting;
+        stage = g;
+        end-is = h .end-is;
+        down = wider F (omega arith) (omega (arith, e)) (then F c (omega (arith, h .lower)) (omega (arith, e)) (h .down));
+        up = h .up;
+        counted = omega (arith, n, h .counted);
+      },
+    )
 
   -- what a timer does to the host: nothing is sent, or the segment on its way again
   data Ticked (p : ℕ) (h : Session) (a : load.Act) : Type 0 where
@@ -418,17 +464,37 @@ module _ (s : LoadSettings) (ms : MachineSettings) (file old : List ℕ) (ok : c
 
       go : (m p : ℕ) → Holds m p (w .host) (w .machine) (w .toMachine) (w .toHost) (w .taken)
           → After (acts (At m) (replied (machine.timed ms (At m .machine) (At m .memory))))
-      go zero p h =
-          (0, p, record {
-            lower = h .lower; upper = h .upper; few = h .few; fitting = h .fitting; stage = h .stage; end-is = refl; down = h .down;
-            up = then P 0 (omega (arith, h .upper)) (omega arith) (h .up); counted = h .counted
-          })
+      go zero p h = (
+        0,
+        p,
+        record {
+          lower = h .lower;
+          upper = h .upper;
+          few = h .few;
+          fitting = h .fitting;
+          stage = h .stage;
+          end-is = refl;
+          down = h .down;
+          up = then P 0 (omega (arith, h .upper)) (omega arith) (h .up);
+          counted = h .counted;
+        },
+      )
       go (suc m) p h =
-          rw (quiet-machine m)
-          (suc m, p, record {
-            lower = h .lower; upper = h .upper; few = h .few; fitting = h .fitting; stage = h .stage; end-is = refl; down = h .down;
-            up = rw (append-nil (w .toHost)) (h .up); counted = h .counted
-          })
+          rw (quiet-machine m) (
+            suc m,
+            p,
+            record {
+              lower = h .lower;
+              upper = h .upper;
+              few = h .few;
+              fitting = h .fitting;
+              stage = h .stage;
+              end-is = refl;
+              down = h .down;
+              up = rw (append-nil (w .toHost)) (h .up);
+              counted = h .counted;
+            },
+          )
 
   -- ---- every run keeps the invariant
   pub closed : Closed (loadEnds s ms file) Inv
@@ -436,23 +502,55 @@ module _ (s : LoadSettings) (ms : MachineSettings) (file old : List ℕ) (ok : c
   closed =
       record {
         keptM = λ w f q b e i. kept-machine w f q b e (i .0) (i .1) (i .2);
-        offM = λ w f q e i. (i .0, i .1, record {
-          lower = i .2 .lower; upper = i .2 .upper; few = i .2 .few; fitting = i .2 .fitting; stage = i .2 .stage; end-is = i .2 .end-is;
-          down = off F (subst (λ (l : List Frame). Flight F (i .0 - 1) (min (i .1) N) l) e (i .2 .down)); up = i .2 .up; counted = i .2 .counted
-        });
+        offM = λ w f q e i. (
+          i .0,
+          i .1,
+          record {
+            lower = i .2 .lower;
+            upper = i .2 .upper;
+            few = i .2 .few;
+            fitting = i .2 .fitting;
+            stage = i .2 .stage;
+            end-is = i .2 .end-is;
+            down = off F (subst (λ (l : List Frame). Flight F (i .0 - 1) (min (i .1) N) l) e (i .2 .down));
+            up = i .2 .up;
+            counted = i .2 .counted;
+          },
+        );
         keptH = λ w f q b e i. kept-host w (i .0) (i .1) (i .2) f q b e;
-        offH = λ w f q e i. (i .0, i .1, record {
-          lower = i .2 .lower; upper = i .2 .upper; few = i .2 .few; fitting = i .2 .fitting; stage = i .2 .stage; end-is = i .2 .end-is;
-          down = i .2 .down; up = off P (subst (λ (l : List Frame). Flight P (i .1 - 1) (i .0 + 1) l) e (i .2 .up)); counted = i .2 .counted
-        });
+        offH = λ w f q e i. (
+          i .0,
+          i .1,
+          record {
+            lower = i .2 .lower;
+            upper = i .2 .upper;
+            few = i .2 .few;
+            fitting = i .2 .fitting;
+            stage = i .2 .stage;
+            end-is = i .2 .end-is;
+            down = i .2 .down;
+            up = off P (subst (λ (l : List Frame). Flight P (i .1 - 1) (i .0 + 1) l) e (i .2 .up));
+            counted = i .2 .counted;
+          },
+        );
         timerH = timer-host;
-        timerM = timer-machine
+        timerM = timer-machine;
       }
 
   pub fresh-holds : Inv (freshWorld ms old)
   unfolding machineAt laid
-  fresh-holds =
-      (0, 0, record {
-        lower = omega arith; upper = omega arith; few = omega arith; fitting = λ i l. absurd (omega arith); stage = waits; end-is = refl;
-        down = none; up = then P {lo = 0 - 1} {hi = 0} 0 (omega arith) (omega arith) none; counted = refl
-      })
+  fresh-holds = (
+    0,
+    0,
+    record {
+      lower = omega arith;
+      upper = omega arith;
+      few = omega arith;
+      fitting = λ i l. absurd (omega arith);
+      stage = waits;
+      end-is = refl;
+      down = none;
+      up = then P {lo = 0 - 1} {hi = 0} 0 (omega arith) (omega arith) none;
+      counted = refl;
+    },
+  )

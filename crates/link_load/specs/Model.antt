@@ -35,7 +35,7 @@ loadEnds s ms file =
       hostFrame = λ h f b. hostTurned (load.loadFrame s h file f b);
       hostTimer = λ h b. hostTurned (load.loadTimer s h file b);
       machineFrame = λ e f b. machineTurned (machine.machineFrame ms (e .machine) f (e .memory) b);
-      machineTimer = λ e b. machineTurned (machine.machineTimer ms (e .machine) (e .memory) b)
+      machineTimer = λ e b. machineTurned (machine.machineTimer ms (e .machine) (e .memory) b);
     }
 
 -- the machine's request for a program
@@ -50,7 +50,7 @@ freshWorld ms memory =
       machine = record { machine = machine.requesting; memory = memory };
       toMachine = [];
       toHost = layout (request ms) ∷ [];
-      taken = 0
+      taken = 0;
     }
 
 module _ (file : List ℕ) (S : ℕ) (memory : List ℕ) where

@@ -31,7 +31,7 @@ over-again b at m e =
     let whole : length (take at m ++ b) ≡ at + length b = rw (length-append, front) in
     let before : take at (over b at m) ≡ take at m = take-at (take at m) (b ++ drop (at + length b) m) at front in
     let behind : drop (at + length b) (over b at m) ≡ drop (at + length b) m =
-        (rw (← append-assoc (take at m) b (drop (at + length b) m)) (drop-at (take at m ++ b) (drop (at + length b) m) (at + length b) whole)) in
+    (rw (← append-assoc (take at m) b (drop (at + length b) m)) (drop-at (take at m ++ b) (drop (at + length b) m) (at + length b) whole)) in
     rw (before, behind)
 
 -- ---- numbers
@@ -137,9 +137,9 @@ module _ (N : ℕ) (address : ℕ → ℕ) (bytes : ℕ → List ℕ) (t : ℕ) 
   again-at k true true e f = inl (rw (e, f))
   again-at k true false e f =
       let same : over (bytes k) (address k) (over (bytes k) (address k) (laid k)) ≡ over (bytes k) (address k) (laid k) =
-          over-again (bytes k) (address k) (laid k) (fits-laid k k ∙ e) in
+      over-again (bytes k) (address k) (laid k) (fits-laid k k ∙ e) in
       let fits-still : fits (bytes k) (address k) (over (bytes k) (address k) (laid k)) ≡ true =
-          ap (λ (n : ℕ). leb (address k + length (bytes k)) n) (length-over (bytes k) (address k) (laid k) (fits-laid k k ∙ e) ∙ length-laid k) ∙ e in
+      ap (λ (n : ℕ). leb (address k + length (bytes k)) n) (length-over (bytes k) (address k) (laid k) (fits-laid k k ∙ e) ∙ length-laid k) ∙ e in
       inr (rw (e, f)
       (repeated k 0 (loading ((k + 1) % 256) 0) (over (bytes k) (address k) (laid k)) (rw (fits-still, same, after-mod k))))
   again-at k false d e f =

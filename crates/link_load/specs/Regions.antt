@@ -24,11 +24,11 @@ over-behind a b at m h =
     let front : length (take at m) ≡ at = length-take-le at m (omega arith) in
     let whole : length (take at m ++ a) ≡ at + length a = rw (length-append, front) in
     let before : take (at + length a) (over a at m) ≡ take at m ++ a =
-        (rw (← append-assoc (take at m) a (drop (at + length a) m)) (take-at (take at m ++ a) (drop (at + length a) m) (at + length a) whole)) in
+    (rw (← append-assoc (take at m) a (drop (at + length a) m)) (take-at (take at m ++ a) (drop (at + length a) m) (at + length a) whole)) in
     let past : drop (at + length a) (over a at m) ≡ drop (at + length a) m =
-        (rw (← append-assoc (take at m) a (drop (at + length a) m)) (drop-at (take at m ++ a) (drop (at + length a) m) (at + length a) whole)) in
+    (rw (← append-assoc (take at m) a (drop (at + length a) m)) (drop-at (take at m ++ a) (drop (at + length a) m) (at + length a) whole)) in
     let behind : drop (at + length a + length b) (over a at m) ≡ drop (at + length a + length b) m =
-        sym (drop-drop (length b) (at + length a) (over a at m)) ∙ (rw past (drop-drop (length b) (at + length a) m)) in
+    sym (drop-drop (length b) (at + length a) (over a at m)) ∙ (rw past (drop-drop (length b) (at + length a) m)) in
     let size : at + length (a ++ b) ≡ at + length a + length b = simp length-append (omega arith) in
     rw (before, behind, size, append-assoc (take at m) a (b ++ drop (at + length a + length b) m), append-assoc a b (drop (at + length a + length b) m))
 
@@ -50,7 +50,7 @@ over-behind-it b at m a h l =
     let k = a - (at + length b) in
     let g : length (take at m ++ b) + k ≡ a = omega arith in
     let p : getD (over b at m) (length (take at m ++ b) + k) 0 ≡ getD (drop (at + length b) m) k 0 =
-        (rw (← append-assoc (take at m) b (drop (at + length b) m)) (getD-append-add (take at m ++ b) (drop (at + length b) m) k 0)) in
+    (rw (← append-assoc (take at m) b (drop (at + length b) m)) (getD-append-add (take at m ++ b) (drop (at + length b) m) k 0)) in
     let q : getD (drop (at + length b) m) k 0 ≡ getD m (length (take at m ++ b) + k) 0 = rw (whole, getD-drop) in
     subst (λ (x : ℕ). getD (over b at m) x 0 ≡ getD m x 0) g (p ∙ q)
 
@@ -143,9 +143,9 @@ module _ (file : List ℕ) (S : ℕ) where
         let inside : r .place + r .length ≤ length file = omega (arith, c .0 .within) in
         let fits = region-fits end r (length m) (c .0) (here r rs (length m) f) in
         let whole : partsOver r (parts S r) m ≡ over (bytes file r) (r .address) m =
-            parts-joined r (parts S r) m s inside (omega arith) (omega arith) (here r rs (length m) f) ∙ ap (λ (l : List ℕ). over l (r .address) m) (joined-whole file S r s) in
+        parts-joined r (parts S r) m s inside (omega arith) (omega arith) (here r rs (length m) f) ∙ ap (λ (l : List ℕ). over l (r .address) m) (joined-whole file S r s) in
         let size : length (over (bytes file r) (r .address) m) ≡ length m =
-            length-over (bytes file r) (r .address) m (le-leb (r .address + length (bytes file r)) (length m) (omega (arith, length-bytes file r inside))) in
+        length-over (bytes file r) (r .address) m (le-leb (r .address + length (bytes file r)) (length m) (omega (arith, length-bytes file r inside))) in
         rw (later-parts r rs (many S rs) m, whole)
         (segments-regions (ending r) rs (over (bytes file r) (r .address) m) (c .1) (rw size (later r rs (length m) f)))
 

@@ -79,7 +79,11 @@ module _ (s : LoadSettings) (ms : MachineSettings) (file old : List ℕ) (ok : c
   unfolding machineAt laid
   in-but-one c l f out =
       record {
-        most = omega arith; fitting = f; memory-is = rw out (all-laid c f); started = λ e. absurd (omega arith); not-started = λ _. rw out
+        most = omega arith;
+        fitting = f;
+        memory-is = rw out (all-laid c f);
+        started = λ e. absurd (omega arith);
+        not-started = λ _. rw out;
       }
 
   -- the segment on its way is in or not
@@ -121,31 +125,51 @@ module _ (s : LoadSettings) (ms : MachineSettings) (file old : List ℕ) (ok : c
           let z : m ≡ 0 = omega (arith, h .lower) in
           record {
             waiting = λ _. (at m (h .end-is) 0 (rw z (in-all 0 (omega arith) (λ i l. absurd (omega arith)))), refl);
-            rejected = λ e. absurd (omega (arith, e)); finished = λ e. absurd (omega (arith, e)); otherwise = λ q. absurd (q refl);
-            counted = h .counted; bounded = omega arith;
-            rejected-at = λ q. absurd (omega (arith, q)); given-up-at = λ q. absurd (omega (arith, q)); unconfirmed-at = λ q. absurd (omega (arith, q))
+            rejected = λ e. absurd (omega (arith, e));
+            finished = λ e. absurd (omega (arith, e));
+            otherwise = λ q. absurd (q refl);
+            counted = h .counted;
+            bounded = omega arith;
+            rejected-at = λ q. absurd (omega (arith, q));
+            given-up-at = λ q. absurd (omega (arith, q));
+            unconfirmed-at = λ q. absurd (omega (arith, q));
           }
       go m p x (runs c r k hc hr hk) h =
           record {
-            waiting = λ e. absurd (omega (arith, e)); rejected = λ e. absurd (omega (arith, e)); finished = λ e. absurd (omega (arith, e));
+            waiting = λ e. absurd (omega (arith, e));
+            rejected = λ e. absurd (omega (arith, e));
+            finished = λ e. absurd (omega (arith, e));
             otherwise = λ _ _ _. rw (h .end-is) (on-way m c hc (omega (arith, h .upper)) (h .lower) (h .fitting));
-            counted = h .counted; bounded = within c r k hc hr hk;
-            rejected-at = λ q. absurd (omega (arith, q)); given-up-at = λ q. absurd (omega (arith, q)); unconfirmed-at = λ q. absurd (omega (arith, q))
+            counted = h .counted;
+            bounded = within c r k hc hr hk;
+            rejected-at = λ q. absurd (omega (arith, q));
+            given-up-at = λ q. absurd (omega (arith, q));
+            unconfirmed-at = λ q. absurd (omega (arith, q));
           }
       go m p x (finished c k e hk) h =
           let z : m ≡ n = omega (arith, h .upper, h .few) in
           record {
-            waiting = λ q. absurd (omega (arith, q)); rejected = λ q. absurd (omega (arith, q));
+            waiting = λ q. absurd (omega (arith, q));
+            rejected = λ q. absurd (omega (arith, q));
             finished = λ _. at m (h .end-is) n (rw z (in-all n (omega arith) (λ i l. h .fitting i (omega (arith, e)))));
-            otherwise = λ _ q _. absurd (q refl); counted = h .counted; bounded = subst (λ (x : ℕ). k ≤ x * (s .repeats + 1)) e hk;
-            rejected-at = λ q. absurd (omega (arith, q)); given-up-at = λ q. absurd (omega (arith, q)); unconfirmed-at = λ q. absurd (omega (arith, q))
+            otherwise = λ _ q _. absurd (q refl);
+            counted = h .counted;
+            bounded = subst (λ (x : ℕ). k ≤ x * (s .repeats + 1)) e hk;
+            rejected-at = λ q. absurd (omega (arith, q));
+            given-up-at = λ q. absurd (omega (arith, q));
+            unconfirmed-at = λ q. absurd (omega (arith, q));
           }
       go m p x (rejected c r k hc out hr hk) h =
           record {
-            waiting = λ q. absurd (omega (arith, q)); finished = λ q. absurd (omega (arith, q));
+            waiting = λ q. absurd (omega (arith, q));
+            finished = λ q. absurd (omega (arith, q));
             rejected = λ _. at m (h .end-is) c (still (on-way m c hc (omega (arith, h .upper)) (h .lower) (h .fitting)));
-            otherwise = λ _ _ q. absurd (q refl); counted = h .counted; bounded = within c r k hc hr hk;
-            rejected-at = λ _. hc; given-up-at = λ q. absurd (omega (arith, q)); unconfirmed-at = λ q. absurd (omega (arith, q))
+            otherwise = λ _ _ q. absurd (q refl);
+            counted = h .counted;
+            bounded = within c r k hc hr hk;
+            rejected-at = λ _. hc;
+            given-up-at = λ q. absurd (omega (arith, q));
+            unconfirmed-at = λ q. absurd (omega (arith, q));
           }
         where
           -- segment c does not fit, so it is not in
@@ -154,10 +178,15 @@ module _ (s : LoadSettings) (ms : MachineSettings) (file old : List ℕ) (ok : c
           still (inr y) = let z : _≡_ {A = Bool} true false = sym (y .fitting c (omega arith)) ∙ out in let q : _≡_ {A = ℕ} 0 1 = cc in absurd (omega arith)
       go m p x (ended c r k v hc hr hk e) h =
           record {
-            waiting = λ q. absurd (omega (arith, q)); rejected = λ q. absurd (apart 2 q (omega arith)); finished = λ q. absurd (apart 1 q (omega arith));
+            waiting = λ q. absurd (omega (arith, q));
+            rejected = λ q. absurd (apart 2 q (omega arith));
+            finished = λ q. absurd (apart 1 q (omega arith));
             otherwise = λ _ _ _. rw (h .end-is) (on-way m c hc (omega (arith, h .upper)) (h .lower) (h .fitting));
-            counted = h .counted; bounded = within c r k hc hr hk;
-            rejected-at = λ q. absurd (apart 2 q (omega arith)); given-up-at = ends-early; unconfirmed-at = ends-last
+            counted = h .counted;
+            bounded = within c r k hc hr hk;
+            rejected-at = λ q. absurd (apart 2 q (omega arith));
+            given-up-at = ends-early;
+            unconfirmed-at = ends-last;
           }
         where
           -- the verdict is 3 or 4

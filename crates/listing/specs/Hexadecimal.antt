@@ -12,7 +12,7 @@ abbrev pub within : ℕ → ℕ → ℕ → Bool
 within low high c = leb low c && leb c high
 
 -- the value of a digit, 0 to 9 and A to F; 16 for any other character
-abbrev pub nibble : ℕ → ℕ
+unfoldable pub nibble : ℕ → ℕ
 nibble c = pick (within 48 57 c) (c - 48) (pick (within 65 70 c) (c - 55) 16)
 
 abbrev pub isDigit : ℕ → Bool

@@ -1,6 +1,9 @@
+pub mod Cases
 pub mod Text
 pub mod Hexadecimal
 pub mod Line
+pub mod Run
 pub mod Over
 pub mod Pattern
 pub mod Answer
+pub mod Listing

@@ -1,17 +1,17 @@
 -- Texts laid over a buffer one behind the other.
 use Prim.Native.Nat.{ℕ, zero, suc, _+_, _-_, _/_, _%_, _<_, _≤_, min}
 use mathlib.Core.Path.{_≡_, refl, sym, ap, _∙_}
-use mathlib.Core.Bool.{Bool, true, false, cond}
 use mathlib.Core.List.{List, [], _∷_, _++_, append-assoc, append-nil}
 use native.Mathlib.Omega.{arith}
 use native.Mathlib.Nat.{add-assoc, add-zero, zero-add}
 use native.Mathlib.Numerals.{add-one}
 use lib.ListN.{length, getD, take, drop, set, length-append, length-take, length-drop, take-append-drop, length-set, drop-of-length-le}
-use lib.Seq.{drop-cons, take-at, drop-at, drop-drop, set-split, take-set-le, length-take-le, take-all}
-use lib.Dec.{eqb}
-use borrow.Author.Tests.{ne-eqb}
+use lib.Seq.{drop-cons, take-at, drop-at, drop-drop, set-split, take-set-le, length-take-le, take-all, take-nil}
+use lib.Dec.{eqb, ltb}
+use borrow.Author.Tests.{ne-eqb, ltb-true, ltb-false}
 use Rattle.octets.specs.Lay.{over}
-use Rattle.listing.specs.Pattern.{Added, takes, piece, composed}
+use Rattle.listing.specs.Cases.{either, by-test}
+use Rattle.listing.specs.Pattern.{Added, part, takes, piece, composed, leftAfter, skip, row}
 use Rattle.listing.specs.Text.{digit, digits, trimmed, decimal, pairs, bytes, chars}
 
 pub length-over : (xs : List ℕ) (at : ℕ) (out : List ℕ) → at + length xs ≤ length out → length (over xs at out) ≡ length out
@@ -19,6 +19,17 @@ length-over xs at out h = simp (length-append, length-take, length-drop) (omega 
 
 pub over-nil : (at : ℕ) (out : List ℕ) → over [] at out ≡ out
 over-nil at out = rw add-zero (take-append-drop at out)
+
+-- two takes that take the same
+take-same : (m n : ℕ) (l : List ℕ) → min m (length l) ≡ min n (length l) → take m l ≡ take n l
+take-same m n [] e = take-nil m ∙ sym (take-nil n)
+take-same zero zero (a ∷ l) e = refl
+take-same zero (suc n) (a ∷ l) e = absurd (omega arith)
+take-same (suc m) zero (a ∷ l) e = absurd (omega arith)
+take-same (suc m) (suc n) (a ∷ l) e = ap (_∷_ a) (take-same m n l (omega arith))
+
+pub take-min : (n : ℕ) (l : List ℕ) → take (min n (length l)) l ≡ take n l
+take-min n l = take-same (min n (length l)) n l (omega arith)
 
 -- what follows goes behind what is there
 pub over-append : (xs ys : List ℕ) (at : ℕ) (out : List ℕ) → at + length xs ≤ length out
@@ -29,7 +40,7 @@ over-append xs ys at out h =
     let n : length P ≡ at + length xs = simp (length-append, length-take) (omega arith) in
     let e₁ : over xs at out ≡ P ++ R = sym (append-assoc (take at out) xs R) in
     let e₂ : drop (at + length xs + length ys) (P ++ R) ≡ drop (length ys) R =
-        sym (drop-drop (length ys) (at + length xs) (P ++ R)) ∙ ap (drop (length ys)) (drop-at P R (at + length xs) n) in
+    sym (drop-drop (length ys) (at + length xs) (P ++ R)) ∙ ap (drop (length ys)) (drop-at P R (at + length xs) n) in
     rw (e₁, take-at P R (at + length xs) n, e₂, drop-drop (length ys) (at + length xs) out, length-append, ← add-assoc at (length xs) (length ys), append-assoc, append-assoc)
 
 -- the last character may be laid first
@@ -38,7 +49,7 @@ over-last : (xs : List ℕ) (d at m : ℕ) (out : List ℕ) → length xs ≡ m 
 over-last xs d at m out e h =
     let n = at + m in
     let e₁ : drop n (set out n d) ≡ d ∷ drop (suc n) out =
-        ap (drop n) (set-split out n d h) ∙ drop-at (take n out) (d ∷ drop (suc n) out) n (length-take-le n out (omega arith)) in
+    ap (drop n) (set-split out n d h) ∙ drop-at (take n out) (d ∷ drop (suc n) out) n (length-take-le n out (omega arith)) in
     let e₂ : at + length (xs ++ (d ∷ [])) ≡ suc n = rw length-append (omega arith) in
     rw (e₂, e, e₁, take-set-le at out n d (omega arith), append-assoc)
 
@@ -79,11 +90,20 @@ module _ {rest : List ℕ} {at : ℕ} {out whole : List ℕ} {from : ℕ} {out�
       record {
         behind = omega (arith, l .behind, a .0);
         long = ap length (a .1) ∙ length-over xs at out room ∙ l .long;
-        gives = rw (a .0, a .1, over-append xs ys at out room, ← e) (l .gives)
+        gives = rw (a .0, a .1, over-append xs ys at out room, ← e) (l .gives);
       }
 
 pub left-none : (at : ℕ) (out whole : List ℕ) (from : ℕ) (out₀ : List ℕ) → Left [] at out whole from out₀ → Added whole from out₀ at out
 left-none at out whole from out₀ l = (omega (arith, l .behind), sym (over-nil at out) ∙ l .gives)
+
+-- two texts added from the start on
+pub two-added : (xs ys out out′ out″ : List ℕ) (m n : ℕ) → length xs + length ys ≤ length out → Added xs 0 out m out′ → Added ys m out′ n out″
+    → (n ≤ length out″) × (take n out″ ≡ xs ++ ys)
+two-added xs ys out out′ out″ m n h a b =
+    let e : out″ ≡ over (xs ++ ys) 0 out = b .1 ∙ (rw (a .0, a .1) (over-append xs ys 0 out (omega arith))) in
+    let l : n ≡ length (xs ++ ys) = rw length-append (omega (arith, a .0, b .0)) in
+    let size : length out″ ≡ length out = ap length e ∙ length-over (xs ++ ys) 0 out (rw length-append (omega arith)) in
+    (omega (arith, length-append xs ys), rw e (take-at (xs ++ ys) (drop (0 + length (xs ++ ys)) out) n (sym l)))
 
 -- a text as long as the buffer
 over-whole : (xs out : List ℕ) → length xs ≡ length out → over xs 0 out ≡ xs
@@ -112,21 +132,63 @@ pub bytes-some : (s : List ℕ) → (length s ≡ 0 → ⊥) → bytes s ≡ pai
 bytes-some [] h = absurd (h refl)
 bytes-some (b ∷ rest) h = refl
 
-pub composed-at : (s p v : List ℕ) (i k : ℕ) → i < length p
-    → composed s (drop i p) v k ≡ piece s (getD p i 0) v k ++ composed s (drop (i + 1) p) v (k + takes (getD p i 0))
-unfolding composed
-composed-at s p v i k h = rw (add-one i, drop-cons p i 0 h)
+-- a part cut to the frame
+cut-none : (n from to : ℕ) → min to n < from → min 0 (n - from) ≡ min (to - from) (n - from)
+cut-none n from to h = omega arith
 
-pub composed-none : (s p v : List ℕ) (i k : ℕ) → length p ≤ i → composed s (drop i p) v k ≡ []
-unfolding composed
-composed-none s p v i k h = rw (drop-of-length-le p {i = i} h)
+cut-some : (n from to : ℕ) → from ≤ min to n → min (min to n - from) (n - from) ≡ min (to - from) (n - from)
+cut-some n from to h = omega arith
 
-at-most : (test : Bool) (n a b : ℕ) → a ≤ n → b ≤ n → cond test a b ≤ n
-at-most true n a b x y = x
-at-most false n a b x y = y
+cut-empty : (e from : ℕ) → e < from → e - min from e ≡ 0
+cut-empty e from h = omega arith
+
+cut-from : (e from : ℕ) → from ≤ e → min from e ≡ from
+cut-from e from h = omega arith
+
+pub part-cut : (s : List ℕ) (from to : ℕ)
+    → take (min to (length s) - min from (min to (length s))) (drop (min from (min to (length s))) s) ≡ part s from to
+part-cut s from to =
+    by-test (ltb (min to (length s)) from) _
+    (λ l.
+    let h = ltb-true (min to (length s)) from l in
+    rw (cut-empty (min to (length s)) from h) (take-same 0 (to - from) (drop from s) (rw length-drop (cut-none (length s) from to h))))
+    (λ l.
+    let h = ltb-false (min to (length s)) from l in
+    rw (cut-from (min to (length s)) from h) (take-same (min to (length s) - from) (to - from) (drop from s) (rw length-drop (cut-some (length s) from to h))))
+
+pub composed-at : (s t v : List ℕ) (i k : ℕ) → i < length t → (getD t i 0 ≡ 10 → ⊥)
+    → composed s (row (drop i t)) v k ≡ piece s (getD t i 0) v k ++ composed s (row (drop (i + 1) t)) v (k + takes (getD t i 0))
+unfolding composed row
+composed-at s t v i k h n = rw (add-one i, drop-cons t i 0 h, ne-eqb (getD t i 0) 10 n)
+
+pub composed-feed : (s t v : List ℕ) (i k : ℕ) → i < length t → getD t i 0 ≡ 10 → composed s (row (drop i t)) v k ≡ []
+unfolding composed row
+composed-feed s t v i k h e = rw (drop-cons t i 0 h, e)
+
+pub composed-none : (s t v : List ℕ) (i k : ℕ) → length t ≤ i → composed s (row (drop i t)) v k ≡ []
+unfolding composed row
+composed-none s t v i k h = rw (drop-of-length-le t {i = i} h)
+
+-- rows passed
+pub skip-next : (t : List ℕ) (i left : ℕ) → i < length t → (left ≡ 0 → ⊥) → skip (leftAfter (getD t i 0) left) (drop (i + 1) t) ≡ skip left (drop i t)
+unfolding skip
+skip-next t i left h z = rw (add-one i, drop-cons t i 0 h, ne-eqb left 0 z)
+
+pub skip-none : (t : List ℕ) (i left : ℕ) → length t ≤ i → drop i t ≡ skip left (drop i t)
+unfolding skip
+skip-none t i left h = rw (drop-of-length-le t {i = i} h)
+
+pub skip-done : (left : ℕ) (t : List ℕ) → left ≡ 0 → t ≡ skip left t
+unfolding skip
+skip-done left [] e = refl
+skip-done left (c ∷ rest) e = rw e
 
 pub takes-most : (c : ℕ) → takes c ≤ 2
-takes-most c = at-most (eqb c 35) 2 1 _ (omega arith) (at-most (eqb c 64) 2 1 _ (omega arith) (at-most (eqb c 37) 2 2 _ (omega arith) (at-most (eqb c 63) 2 1 _ (omega arith) (at-most (eqb c 33) 2 1 0 (omega arith) (omega arith)))))
+takes-most c =
+    either (eqb c 35) P (omega arith) (either (eqb c 64) P (omega arith) (either (eqb c 37) P (omega arith) (either (eqb c 63) P (omega arith) (either (eqb c 33) P (omega arith) (omega arith)))))
+  where
+    P : ℕ → Type 0
+    P n = n ≤ 2
 
 -- the zeros in front, digit by digit
 two : (d : List ℕ) (i : ℕ) → i + 1 < length d → drop i d ≡ getD d i 0 ∷ getD d (suc i) 0 ∷ drop (suc (suc i)) d
@@ -148,3 +210,5 @@ trim-short (a ∷ b ∷ rest) h = absurd (omega arith)
 
 pub trim-last : (d : List ℕ) (i : ℕ) → length d ≤ i + 1 → trimmed (drop i d) ≡ drop i d
 trim-last d i h = trim-short (drop i d) (simp length-drop (omega arith))
+
+-- x

@@ -4,11 +4,12 @@ ghost use mathlib.Core.List.{_++_};
 ghost use Prim.Native.Nat.{_+_, _*_, _<_, _≤_, min};
 ghost use lib.ListN.{length, getD, drop};
 ghost use Rattle.octets.specs.Lay.{over, Came};
-ghost use Rattle.reader.specs.Answer.{meaning};
-ghost use Rattle.listing.specs.Text.{digit, digits, trimmed, decimal, address, pairs, bytes, program, form, reason, pattern};
-ghost use Rattle.listing.specs.Hexadecimal.{nibble};
-ghost use Rattle.listing.specs.Line.{fresh, next, kept};
-ghost use Rattle.listing.specs.Pattern.{Added, part, takes, piece, composed, few, numbers};
+ghost use Rattle.listing.specs.Text.{digit, digits, trimmed, decimal, address, pairs, bytes, program, form};
+ghost use Rattle.listing.specs.Hexadecimal.{nibble, frame};
+ghost use Rattle.listing.specs.Line.{fresh, next, kept, isFoul, decoded};
+ghost use Rattle.listing.specs.Pattern.{Added, part, takes, piece, composed, leftAfter, skip, row, patterns, few, request, refusalRow, numbers};
+ghost use Rattle.listing.specs.Run.{held};
+ghost use Rattle.listing.specs.Listing.{printed, placed, fed, closed, Feeds};
 use octets::Written;
 use reader::Frame;
 
@@ -20,6 +21,8 @@ pub struct Line {
     pub high: u8,
     // Some character is no digit.
     pub foul: bool,
+    // There is a character.
+    pub begun: bool,
 }
 
 // The value of a capital hexadecimal digit; 16 for any other character.
@@ -49,6 +52,7 @@ pub fn start() -> Line
         length: 0,
         high: 16,
         foul: false,
+        begun: false,
     }
 }
 
@@ -57,36 +61,25 @@ pub fn step(line: Line, c: u8, buffer: &mut [u8]) -> Line
     ensures { λ r. ⌜ (r ≡ next (length (now (buffer .entry))) line c)
         × (now (buffer .exit) ≡ kept line c (now (buffer .entry))) ⌝ }
 {
+    let mut after = line;
+    after.begun = true;
     let low = nibble(c);
-    let high = line.high;
-    let at = line.length;
     if 16 <= low {
-        return Line {
-            length: at,
-            high,
-            foul: true,
-        };
+        after.foul = true;
+        return after;
     }
+    let high = line.high;
     if 16 <= high {
-        return Line {
-            length: at,
-            high: low,
-            foul: line.foul,
-        };
+        after.high = low;
+        return after;
     }
-    if buffer.len() <= at {
-        return Line {
-            length: at,
-            high: 16,
-            foul: line.foul,
-        };
+    after.high = 16;
+    let at = line.length;
+    if at < buffer.len() {
+        buffer[at] = high * 16 + low;
+        after.length = at + 1;
     }
-    buffer[at] = high * 16 + low;
-    Line {
-        length: at + 1,
-        high: 16,
-        foul: line.foul,
-    }
+    after
 }
 
 fn digit(d: usize) -> u8
@@ -182,18 +175,20 @@ fn bytes(s: &[u8], out: &mut [u8], at: usize) -> usize
     pairs(s, out, at)
 }
 
+fn least(a: usize, b: usize) -> usize
+    ensures { λ r. ⌜ r ≡ min a b ⌝ }
+{
+    if a < b { a } else { b }
+}
+
 // The bytes of a part of the frame.
 fn part(s: &[u8], from: usize, to: usize, out: &mut [u8], at: usize) -> usize
     requires { ⌜ at + length (bytes (part (now s) from to)) ≤ length (now out) ⌝ }
     ensures { λ r. ⌜ Added (bytes (part (now (s .entry)) from to)) at (now (out .entry)) r (now (out .exit)) ⌝ }
 {
-    if s.len() < to {
-        return add(b"-", out, at);
-    }
-    if to < from {
-        return add(b"-", out, at);
-    }
-    bytes(&s[from..to], out, at)
+    let end = least(to, s.len());
+    let start = least(from, end);
+    bytes(&s[start..end], out, at)
 }
 
 fn program(p: usize, out: &mut [u8], at: usize) -> usize
@@ -256,16 +251,43 @@ fn piece(s: &[u8], c: u8, v: &[usize], k: usize, out: &mut [u8], at: usize) -> u
     }
 }
 
-// A pattern with the values in the places of its marks.
-fn fill(s: &[u8], pattern: &[u8], v: &[usize], out: &mut [u8]) -> usize
-    requires { ⌜ length (composed (now s) (now pattern) (now v) 0) ≤ length (now out) ⌝ }
-    ensures { λ r. ⌜ Added (composed (now (s .entry)) (now (pattern .entry)) (now (v .entry)) 0) 0 (now (out .entry)) r (now (out .exit)) ⌝ }
+// One row less to pass, if the character ends a row.
+fn left_after(c: u8, left: usize) -> usize
+    requires { ⌜ 0 < left ⌝ }
+    ensures { λ r. ⌜ r ≡ leftAfter c left ⌝ }
+{
+    if c == b'\n' { left - 1 } else { left }
+}
+
+// Where row k of a table begins.
+fn row_at(table: &[u8], k: usize) -> usize
+    ensures { λ r. ⌜ drop r (now (table .entry)) ≡ skip k (now (table .entry)) ⌝ }
 {
     let mut i = 0;
-    let mut k = 0;
+    let mut left = k;
+    while i < table.len() {
+        if left == 0 {
+            return i;
+        }
+        left = left_after(table[i], left);
+        i += 1;
+    }
+    i
+}
+
+// Writes the pattern that begins at a place of a table, with the values in the places of its marks, from number 1 on.
+fn fill(s: &[u8], table: &[u8], from: usize, v: &[usize], out: &mut [u8]) -> usize
+    requires { ⌜ length (composed (now s) (row (drop from (now table))) (now v) 1) ≤ length (now out) ⌝ }
+    ensures { λ r. ⌜ Added (composed (now (s .entry)) (row (drop from (now (table .entry)))) (now (v .entry)) 1) 0 (now (out .entry)) r (now (out .exit)) ⌝ }
+{
+    let mut i = from;
+    let mut k = 1;
     let mut at = 0;
-    while i < pattern.len() {
-        let c = pattern[i];
+    while i < table.len() {
+        let c = table[i];
+        if c == b'\n' {
+            return at;
+        }
         at = piece(s, c, v, k, out, at);
         k += takes(c);
         i += 1;
@@ -273,10 +295,10 @@ fn fill(s: &[u8], pattern: &[u8], v: &[usize], out: &mut [u8]) -> usize
     at
 }
 
-fn few(a: usize, b: usize, c: usize, d: usize, e: usize) -> [usize; 9]
-    ensures { λ r. ⌜ r ≡ few a b c d e ⌝ }
+fn few(row: usize, a: usize, b: usize, c: usize, d: usize, e: usize, f: usize) -> [usize; 10]
+    ensures { λ r. ⌜ r ≡ few row a b c d e f ⌝ }
 {
-    [a, b, c, d, e, 0, 0, 0, 0]
+    [row, a, b, c, d, e, f, 0, 0, 0]
 }
 
 // The place after `end`, in a frame of n bytes.
@@ -286,8 +308,45 @@ fn after(end: usize, n: usize) -> usize
     if end < n { end + 1 } else { n }
 }
 
-// The numbers of an answer on a frame of n bytes, in the pattern's order; two for a part.
-fn numbers(answer: Frame, n: usize) -> [usize; 9]
+// The numbers of a program request.
+fn request(
+    device: u8,
+    format: u8,
+    program: u8,
+    form: u8,
+    end: usize,
+    processor: u8,
+    n: usize,
+) -> [usize; 10]
+    ensures { λ r. ⌜ r ≡ request device format program form end processor n ⌝ }
+{
+    [
+        2,
+        device as usize,
+        format as usize,
+        program as usize,
+        form as usize,
+        5,
+        end,
+        processor as usize,
+        after(end, n),
+        n,
+    ]
+}
+
+// The row of a refusal.
+fn refusal_row(refusal: u8) -> usize
+    ensures { λ r. ⌜ r ≡ refusalRow refusal ⌝ }
+{
+    if refusal < 5 {
+        12 + refusal as usize
+    } else {
+        12
+    }
+}
+
+// The row of an answer on a frame of n bytes, and its numbers in the pattern's order; two for bytes.
+fn numbers(answer: Frame, n: usize) -> [usize; 10]
     ensures { λ r. ⌜ r ≡ numbers n answer ⌝ }
 {
     match answer {
@@ -296,8 +355,24 @@ fn numbers(answer: Frame, n: usize) -> [usize; 9]
             address,
             end,
             transfer,
-        } => few(number as usize, address as usize, 6, end, transfer as usize),
-        Frame::MemoryLoad { number, address } => few(number as usize, address as usize, 6, n, 0),
+        } => few(
+            0,
+            number as usize,
+            address as usize,
+            6,
+            end,
+            transfer as usize,
+            0,
+        ),
+        Frame::MemoryLoad { number, address } => few(
+            1,
+            number as usize,
+            address as usize,
+            6,
+            n,
+            0,
+            0,
+        ),
         Frame::RequestProgram {
             device,
             format,
@@ -305,71 +380,153 @@ fn numbers(answer: Frame, n: usize) -> [usize; 9]
             form,
             end,
             processor,
-        } => [
-            device as usize,
-            format as usize,
-            program as usize,
-            form as usize,
-            5,
-            end,
-            processor as usize,
-            after(end, n),
-            n,
-        ],
-        Frame::RequestLoad { number, error } => few(number as usize, error as usize, 0, 0, 0),
-        Frame::RequestDump { address, count } => few(address as usize, count as usize, 0, 0, 0),
+        } => request(device, format, program, form, end, processor, n),
+        Frame::RequestLoad { number, error } => few(3, number as usize, error as usize, 0, 0, 0, 0),
+        Frame::RequestDump { address, count } => few(
+            4,
+            address as usize,
+            count as usize,
+            0,
+            0,
+            0,
+            0,
+        ),
         Frame::RequestDumpService {
             device,
             format,
             size,
             compatibility,
-        } => [device as usize, format as usize, size as usize, compatibility as usize, 8, n, 0, 0, 0],
-        Frame::DumpData { address } => few(address as usize, 5, n, 0, 0),
-        Frame::DumpComplete => few(0, 0, 0, 0, 0),
-        Frame::Volunteer => few(0, 0, 0, 0, 0),
+        } => few(
+            5,
+            device as usize,
+            format as usize,
+            size as usize,
+            compatibility as usize,
+            8,
+            n,
+        ),
+        Frame::DumpData { address } => few(6, address as usize, 5, n, 0, 0, 0),
+        Frame::DumpComplete => few(7, 0, 0, 0, 0, 0, 0),
+        Frame::Volunteer => few(8, 0, 0, 0, 0, 0, 0),
         Frame::Parameters {
             number,
             end,
             transfer,
-        } => few(number as usize, 2, end, transfer as usize, 0),
-        Frame::LoopData { receipt } => few(receipt as usize, 3, n, 0, 0),
-        Frame::LoopedData { receipt } => few(receipt as usize, 3, n, 0, 0),
-        Frame::Refused(_) => few(0, 0, 0, 0, 0),
+        } => few(9, number as usize, 2, end, transfer as usize, 0, 0),
+        Frame::LoopData { receipt } => few(10, receipt as usize, 3, n, 0, 0, 0),
+        Frame::LoopedData { receipt } => few(11, receipt as usize, 3, n, 0, 0, 0),
+        Frame::Refused(refusal) => few(refusal_row(refusal), 0, 0, 0, 0, 0, 0),
     }
 }
 
-// Why a frame was refused.
-fn reason(n: u8, s: &[u8], v: &[usize], out: &mut [u8]) -> usize
-    requires { ⌜ length (composed (now s) (reason n) (now v) 0) ≤ length (now out) ⌝ }
-    ensures { λ r. ⌜ Added (composed (now (s .entry)) (reason n) (now (v .entry)) 0) 0 (now (out .entry)) r (now (out .exit)) ⌝ }
+// The text of the row and the numbers of an answer.
+fn compose(s: &[u8], v: &[usize], out: &mut [u8]) -> usize
+    requires { ⌜ length (composed (now s) (row (skip (getD (now v) 0 0) patterns)) (now v) 1) ≤ length (now out) ⌝ }
+    ensures { λ r. ⌜ Added (composed (now (s .entry)) (row (skip (getD (now (v .entry)) 0 0) patterns)) (now (v .entry)) 1) 0 (now (out .entry)) r (now (out .exit)) ⌝ }
 {
-    match n {
-        1 => fill(s, b"refused 1: empty, or ends too early", v, out),
-        2 => fill(s, b"refused 2: bytes left over, or above 1,500", v, out),
-        3 => fill(s, b"refused 3: code not listed", v, out),
-        4 => fill(s, b"refused 4: a program type, software form, entry type, entry length or time field outside the list", v, out),
-        _ => fill(s, b"refused", v, out),
+    let table = b"0 memory load with transfer: number #, address @, data %, transfer address @\n\
+        2 memory load: number #, address @, data %\n\
+        8 request program: device #, format #, program type ?, software form !, software id %, processor #, info %\n\
+        10 request memory load: number #, error #\n\
+        4 request memory dump: address @, count #\n\
+        12 request dump service: device #, format #, memory size #, compatibility #, info %\n\
+        14 memory dump data: address @, data %\n\
+        1 dump complete\n\
+        3 assistance volunteer\n\
+        20 parameter load with transfer: number #, entries %, transfer address @\n\
+        24 loop data: receipt #, data %\n\
+        26 looped data: receipt #, data %\n\
+        refused\n\
+        refused 1: empty, or ends too early\n\
+        refused 2: bytes left over, or above 1,500\n\
+        refused 3: code not listed\n\
+        refused 4: a program type, software form, entry type, entry length or time field outside the list\n";
+    let from = row_at(table, number(v, 0));
+    fill(s, table, from, v, out)
+}
+
+// Lays a text at a buffer's start: its length, or refusal 9 with the buffer as it was.
+fn place(src: &[u8], out: &mut [u8]) -> Written
+    ensures { λ r. ⌜ Came (placed (now (src .entry)) (now (out .entry))) r (now (out .exit)) ⌝ }
+{
+    if out.len() < src.len() {
+        return Written {
+            length: 0,
+            refusal: 9,
+        };
+    }
+    octets::put(src, out, 0);
+    Written {
+        length: src.len(),
+        refusal: 0,
     }
 }
 
-// The text of an answer, with its numbers.
-fn compose(answer: Frame, s: &[u8], v: &[usize], out: &mut [u8]) -> usize
-    requires { ⌜ length (composed (now s) (pattern (meaning (now s) answer)) (now v) 0) ≤ length (now out) ⌝ }
-    ensures { λ r. ⌜ Added (composed (now (s .entry)) (pattern (meaning (now (s .entry)) answer)) (now (v .entry)) 0) 0 (now (out .entry)) r (now (out .exit)) ⌝ }
+// The line of a frame, with its line feed.
+pub fn show(s: &[u8], out: &mut [u8]) -> Written
+    ensures { λ r. ⌜ Came (placed (printed (frame (now (s .entry)))) (now (out .entry))) r (now (out .exit)) ⌝ }
 {
-    match answer {
-        Frame::MemoryLoadTransfer { .. } => fill(s, b"0 memory load with transfer: number #, address @, data %, transfer address @", v, out),
-        Frame::MemoryLoad { .. } => fill(s, b"2 memory load: number #, address @, data %", v, out),
-        Frame::RequestProgram { .. } => fill(s, b"8 request program: device #, format #, program type ?, software form !, software id %, processor #, info %", v, out),
-        Frame::RequestLoad { .. } => fill(s, b"10 request memory load: number #, error #", v, out),
-        Frame::RequestDump { .. } => fill(s, b"4 request memory dump: address @, count #", v, out),
-        Frame::RequestDumpService { .. } => fill(s, b"12 request dump service: device #, format #, memory size #, compatibility #, info %", v, out),
-        Frame::DumpData { .. } => fill(s, b"14 memory dump data: address @, data %", v, out),
-        Frame::DumpComplete => fill(s, b"1 dump complete", v, out),
-        Frame::Volunteer => fill(s, b"3 assistance volunteer", v, out),
-        Frame::Parameters { .. } => fill(s, b"20 parameter load with transfer: number #, entries %, transfer address @", v, out),
-        Frame::LoopData { .. } => fill(s, b"24 loop data: receipt #, data %", v, out),
-        Frame::LoopedData { .. } => fill(s, b"26 looped data: receipt #, data %", v, out),
-        Frame::Refused(n) => reason(n, s, v, out),
+    let mut space = [0u8; 3200];
+    let answer = reader::read(s);
+    let v = numbers(answer, s.len());
+    let n = compose(s, &v, &mut space);
+    let end = add(b"\n", &mut space, n);
+    place(&space[..end], out)
+}
+
+// A line that ends here is no hexadecimal: a character is no digit, or a digit waits for the second one.
+fn is_foul(line: Line) -> bool
+    ensures { λ r. ⌜ r ≡ isFoul line ⌝ }
+{
+    line.foul || line.high < 16
+}
+
+// The line that is printed if a line ends here.
+pub fn finish(line: Line, buffer: &[u8], out: &mut [u8]) -> Written
+    ensures { λ r. ⌜ Came (placed (printed (decoded line (now (buffer .entry)))) (now (out .entry))) r (now (out .exit)) ⌝ }
+{
+    if is_foul(line) {
+        return place(b"not hexadecimal\n", out);
+    }
+    let n = least(line.length, buffer.len());
+    show(&buffer[..n], out)
+}
+
+// What a character of the input leaves: the line so far, and what is to be printed now.
+pub struct Fed {
+    pub line: Line,
+    pub written: Written,
+}
+
+// One more character of the input: a line feed prints the line's.
+pub fn feed(line: Line, c: u8, buffer: &mut [u8], out: &mut [u8]) -> Fed
+    ensures { λ r. ⌜ Feeds (fed (held line (now (buffer .entry))) c) (now (out .entry)) r (now (buffer .exit)) (now (out .exit)) ⌝ }
+{
+    if c == b'\n' {
+        let written = finish(line, buffer, out);
+        return Fed {
+            line: start(),
+            written,
+        };
+    }
+    Fed {
+        line: step(line, c, buffer),
+        written: Written {
+            length: 0,
+            refusal: 0,
+        },
+    }
+}
+
+// The end of the input: a last line without a line feed is printed if it has a character.
+pub fn close(line: Line, buffer: &[u8], out: &mut [u8]) -> Written
+    ensures { λ r. ⌜ Came (placed (closed (held line (now (buffer .entry)))) (now (out .entry))) r (now (out .exit)) ⌝ }
+{
+    if line.begun {
+        return finish(line, buffer, out);
+    }
+    Written {
+        length: 0,
+        refusal: 0,
     }
 }

@@ -1,188 +1,26 @@
-// The calls that include/mop.h declares, for a line driver in C: byte slices and numbers alone.
+// The calls that include/mop.h declares, for a line driver in C: byte slices, numbers and structs of numbers alone.
 ghost use mathlib.Core.Path.{_≡_};
-ghost use Prim.Native.Nat.{_+_, _-_, min};
 ghost use Rattle.octets.specs.Lay.{Came};
 ghost use Rattle.message.specs.Message.{memoryLoadTransfer, memoryLoad, requestProgram, requestLoad, requestDump, requestDumpService, dumpData, dumpComplete, volunteer, parameters, loopData, loopedData};
 ghost use Rattle.message.specs.Read.{read};
 ghost use Rattle.message.specs.Write.{write};
-ghost use Rattle.mop.specs.Numbers.{row, placed, numbers};
-ghost use Rattle.mop.specs.Flat.{flat};
+ghost use Rattle.fields.specs.Numbers.{numbers};
 ghost use Rattle.image.specs.Image.{checked, found};
 ghost use Rattle.mop.specs.Image.{image, segment};
+ghost use Rattle.machine.specs.Machine.{Left as MachineLeft, machineFrame, machineTimer, requesting, offering};
+ghost use Rattle.load.specs.Load.{Left as LoadLeft, fresh as freshLoad, loadFrame, loadTimer};
+ghost use Rattle.dump.specs.Dump.{Left as DumpLeft, fresh as freshDump, dumpFrame, dumpTimer};
+use fields::Fields;
 use image::Checked;
 use image::Found;
 use octets::Written;
-use reader::Frame;
 
 // A frame's fields: mop_frame of the header.
-#[repr(C)]
-pub struct FrameFields {
-    pub data_at: usize,
-    pub data_length: usize,
-    pub id_at: usize,
-    pub id_length: usize,
-    pub address: u32,
-    pub transfer: u32,
-    pub memory_size: u32,
-    pub count: u16,
-    pub receipt: u16,
-    pub refusal: u8,
-    pub code: u8,
-    pub number: u8,
-    pub error: u8,
-    pub device: u8,
-    pub format: u8,
-    pub program: u8,
-    pub form: u8,
-    pub processor: u8,
-    pub compatibility: u8,
-}
-
-// The distance from a place to a later one, or 0.
-fn gap(at: usize, end: usize) -> usize
-    ensures { λ r. ⌜ r ≡ end - at ⌝ }
-{
-    if at < end { end - at } else { 0 }
-}
-
-// The fields of a frame with no variable part, and none of a machine's.
-fn plain(
-    refusal: u8,
-    code: u8,
-    number: u8,
-    error: u8,
-    count: u16,
-    receipt: u16,
-    address: u32,
-    transfer: u32,
-) -> FrameFields
-    ensures { λ r. ⌜ r ≡ row refusal code number error 0 0 0 0 0 0 count receipt address transfer 0 0 0 0 0 ⌝ }
-{
-    FrameFields {
-        data_at: 0,
-        data_length: 0,
-        id_at: 0,
-        id_length: 0,
-        address,
-        transfer,
-        memory_size: 0,
-        count,
-        receipt,
-        refusal,
-        code,
-        number,
-        error,
-        device: 0,
-        format: 0,
-        program: 0,
-        form: 0,
-        processor: 0,
-        compatibility: 0,
-    }
-}
-
-// The same, with a variable part from `at` to `end`.
-fn placed(f: FrameFields, at: usize, end: usize) -> FrameFields
-    ensures { λ r. ⌜ r ≡ placed f at (end - at) ⌝ }
-{
-    let mut g = f;
-    g.data_at = at;
-    g.data_length = gap(at, end);
-    g
-}
-
-// The place after `end`, in a frame of n bytes.
-fn after(end: usize, n: usize) -> usize
-    ensures { λ r. ⌜ r ≡ min (end + 1) n ⌝ }
-{
-    if end < n { end + 1 } else { n }
-}
-
-// Code 8, with the software id from 5 to `end` and the info behind the processor, to n.
-fn program(
-    device: u8,
-    format: u8,
-    program: u8,
-    form: u8,
-    processor: u8,
-    end: usize,
-    n: usize,
-) -> FrameFields
-    ensures { λ r. ⌜ r ≡ row 0 8 0 0 device format program form processor 0 0 0 0 0 0 (min (end + 1) n) (n - min (end + 1) n) 5 (end - 5) ⌝ }
-{
-    let mut f = placed(plain(0, 8, 0, 0, 0, 0, 0, 0), after(end, n), n);
-    f.device = device;
-    f.format = format;
-    f.program = program;
-    f.form = form;
-    f.processor = processor;
-    f.id_at = 5;
-    f.id_length = gap(5, end);
-    f
-}
-
-// Code 12, with the info from 8 to n.
-fn dump_service(device: u8, format: u8, size: u32, compatibility: u8, n: usize) -> FrameFields
-    ensures { λ r. ⌜ r ≡ row 0 12 0 0 device format 0 0 0 compatibility 0 0 0 0 size 8 (n - 8) 0 0 ⌝ }
-{
-    let mut f = placed(plain(0, 12, 0, 0, 0, 0, 0, 0), 8, n);
-    f.device = device;
-    f.format = format;
-    f.memory_size = size;
-    f.compatibility = compatibility;
-    f
-}
-
-// What the reader answered of a frame of n bytes.
-fn flat(n: usize, answer: Frame) -> FrameFields
-    ensures { λ r. ⌜ r ≡ flat n answer ⌝ }
-{
-    match answer {
-        Frame::MemoryLoadTransfer {
-            number,
-            address,
-            end,
-            transfer,
-        } => placed(plain(0, 0, number, 0, 0, 0, address, transfer), 6, end),
-        Frame::MemoryLoad { number, address } => {
-            placed(plain(0, 2, number, 0, 0, 0, address, 0), 6, n)
-        }
-        Frame::RequestProgram {
-            device,
-            format,
-            program: kind,
-            form,
-            end,
-            processor,
-        } => program(device, format, kind, form, processor, end, n),
-        Frame::RequestLoad { number, error } => plain(0, 10, number, error, 0, 0, 0, 0),
-        Frame::RequestDump { address, count } => plain(0, 4, 0, 0, count, 0, address, 0),
-        Frame::RequestDumpService {
-            device,
-            format,
-            size,
-            compatibility,
-        } => dump_service(device, format, size, compatibility, n),
-        Frame::DumpData { address } => placed(plain(0, 14, 0, 0, 0, 0, address, 0), 5, n),
-        Frame::DumpComplete => plain(0, 1, 0, 0, 0, 0, 0, 0),
-        Frame::Volunteer => plain(0, 3, 0, 0, 0, 0, 0, 0),
-        Frame::Parameters {
-            number,
-            end,
-            transfer,
-        } => placed(plain(0, 20, number, 0, 0, 0, 0, transfer), 2, end),
-        Frame::LoopData { receipt } => placed(plain(0, 24, 0, 0, 0, receipt, 0, 0), 3, n),
-        Frame::LoopedData { receipt } => placed(plain(0, 26, 0, 0, 0, receipt, 0, 0), 3, n),
-        Frame::Refused(refusal) => plain(refusal, 0, 0, 0, 0, 0, 0, 0),
-    }
-}
-
 #[no_mangle]
-pub extern "C" fn mop_read(frame: &[u8]) -> FrameFields
+pub extern "C" fn mop_read(frame: &[u8]) -> Fields
     ensures { λ r. ⌜ r ≡ numbers (read (now (frame .entry))) ⌝ }
 {
-    let answer = reader::read(frame);
-    flat(frame.len(), answer)
+    fields::read(frame)
 }
 
 // A writer for each code. Its answer is mop_written of the header.
@@ -368,4 +206,121 @@ pub extern "C" fn mop_image_segment(file: &[u8], segment_size: u32, index: u64) 
             refusal,
         },
     }
+}
+
+// The machine end: mop_machine of the header.
+
+#[no_mangle]
+pub extern "C" fn mop_machine_start_load(
+    settings: machine::Settings,
+    memory: &[u8],
+    reply: &mut [u8],
+) -> machine::Stepped
+    ensures { λ r. ⌜ MachineLeft (machineTimer settings requesting (now (memory .entry)) (now (reply .entry))) r (now (memory .entry)) (now (reply .exit)) ⌝ }
+{
+    machine::start_load(settings, memory, reply)
+}
+
+#[no_mangle]
+pub extern "C" fn mop_machine_start_dump(
+    settings: machine::Settings,
+    memory: &[u8],
+    reply: &mut [u8],
+) -> machine::Stepped
+    ensures { λ r. ⌜ MachineLeft (machineTimer settings offering (now (memory .entry)) (now (reply .entry))) r (now (memory .entry)) (now (reply .exit)) ⌝ }
+{
+    machine::start_dump(settings, memory, reply)
+}
+
+#[no_mangle]
+pub extern "C" fn mop_machine_frame(
+    settings: machine::Settings,
+    machine: machine::Machine,
+    frame: &[u8],
+    memory: &mut [u8],
+    reply: &mut [u8],
+) -> machine::Stepped
+    ensures { λ r. ⌜ MachineLeft (machineFrame settings machine (now (frame .entry)) (now (memory .entry)) (now (reply .entry))) r (now (memory .exit)) (now (reply .exit)) ⌝ }
+{
+    machine::frame(settings, machine, frame, memory, reply)
+}
+
+#[no_mangle]
+pub extern "C" fn mop_machine_timer(
+    settings: machine::Settings,
+    machine: machine::Machine,
+    memory: &[u8],
+    reply: &mut [u8],
+) -> machine::Stepped
+    ensures { λ r. ⌜ MachineLeft (machineTimer settings machine (now (memory .entry)) (now (reply .entry))) r (now (memory .entry)) (now (reply .exit)) ⌝ }
+{
+    machine::timer(settings, machine, memory, reply)
+}
+
+// The host's load: mop_load of the header.
+
+#[no_mangle]
+pub extern "C" fn mop_load_start() -> load::Session
+    ensures { λ r. ⌜ r ≡ freshLoad ⌝ }
+{
+    load::start()
+}
+
+#[no_mangle]
+pub extern "C" fn mop_load_frame(
+    settings: load::Settings,
+    session: load::Session,
+    file: &[u8],
+    frame: &[u8],
+    reply: &mut [u8],
+) -> load::Stepped
+    ensures { λ r. ⌜ LoadLeft (loadFrame settings session (now (file .entry)) (now (frame .entry)) (now (reply .entry))) r (now (reply .exit)) ⌝ }
+{
+    load::frame(settings, session, file, frame, reply)
+}
+
+#[no_mangle]
+pub extern "C" fn mop_load_timer(
+    settings: load::Settings,
+    session: load::Session,
+    file: &[u8],
+    reply: &mut [u8],
+) -> load::Stepped
+    ensures { λ r. ⌜ LoadLeft (loadTimer settings session (now (file .entry)) (now (reply .entry))) r (now (reply .exit)) ⌝ }
+{
+    load::timer(settings, session, file, reply)
+}
+
+// The host's dump: mop_dump of the header.
+
+#[no_mangle]
+pub extern "C" fn mop_dump_start() -> dump::Session
+    ensures { λ r. ⌜ r ≡ freshDump ⌝ }
+{
+    dump::start()
+}
+
+#[no_mangle]
+pub extern "C" fn mop_dump_frame(
+    settings: dump::Settings,
+    session: dump::Session,
+    frame: &[u8],
+    buffer: &mut [u8],
+    reply: &mut [u8],
+) -> dump::Stepped
+    ensures { λ r. ⌜ DumpLeft (dumpFrame settings session (now (frame .entry)) (now (buffer .entry)) (now (reply .entry))) r (now (buffer .exit)) (now (reply .exit)) ⌝ }
+{
+    dump::frame(settings, session, frame, buffer, reply)
+}
+
+#[no_mangle]
+pub extern "C" fn mop_dump_timer(
+    settings: dump::Settings,
+    session: dump::Session,
+    buffer: &[u8],
+    reply: &mut [u8],
+) -> dump::Stepped
+    ensures { λ r. ⌜ DumpLeft (dumpTimer settings session (now (buffer .entry)) (now (reply .entry))) r (now (buffer .entry)) (now (reply .exit)) ⌝ }
+{
+    dump::timer(settings, session, buffer, reply)
 }

@@ -81,3 +81,13 @@ number-at n at xs = rw (number-take, getD-drop, drop-drop, add-zero)
 pub number-on : (n k at : ℕ) (xs : List ℕ)
     → number (take (suc n) (drop (at + k) xs)) ≡ getD xs (at + k) 0 + 256 * number (take n (drop (at + (k + 1)) xs))
 number-on n k at xs = rw (number-at n (at + k) xs, add-assoc at k 1)
+
+-- the numbers of two and of four bytes at a place
+pub number-two : (at : ℕ) (xs : List ℕ) → number (take 2 (drop at xs)) ≡ getD xs at 0 + 256 * getD xs (at + 1) 0
+unfolding number
+number-two at xs = omega (arith, number-at 1 at xs, number-on 0 1 at xs)
+
+pub number-four : (at : ℕ) (xs : List ℕ)
+    → number (take 4 (drop at xs)) ≡ getD xs at 0 + 256 * (getD xs (at + 1) 0 + 256 * (getD xs (at + 2) 0 + 256 * getD xs (at + 3) 0))
+unfolding number
+number-four at xs = omega (arith, number-at 3 at xs, number-on 2 1 at xs, number-on 1 2 at xs, number-on 0 3 at xs)

@@ -40,6 +40,9 @@ pub fn word16(s: &[u8], at: usize) -> u16
     if s.len() < at {
         return 0;
     }
+    if 2 <= s.len() - at {
+        return join16(s[at], s[at + 1]);
+    }
     join16(octet(s, at), octet(s, at + 1))
 }
 
@@ -49,6 +52,9 @@ pub fn word32(s: &[u8], at: usize) -> u32
 {
     if s.len() < at {
         return 0;
+    }
+    if 4 <= s.len() - at {
+        return join32(s[at], s[at + 1], s[at + 2], s[at + 3]);
     }
     join32(
         octet(s, at),

@@ -6,15 +6,12 @@ use Rattle.fields.proofs.dump_service.Lts as lts
 use Rattle.fields.proofs.placed.Reads as placed-reads
 use Rattle.fields.proofs.plain.Reads as plain-reads
 
--- src/lib.rt:113:24
 plain-requires : tie.Need-plain-requires
 plain-requires c κs = search needs
 
--- src/lib.rt:113:9
 placed-requires : tie.Need-placed-requires
 placed-requires c κs = search needs
 
--- src/lib.rt:110:1
 returns : tie.Need-returns
 returns c = rw (c .placed .ensures, c .before .plain .ensures)
 

@@ -5,11 +5,9 @@ use Rattle.fields.proofs.placed.Reads as reads
 use Rattle.fields.proofs.placed.Lts as lts
 use Rattle.fields.proofs.gap.Reads as gap-reads
 
--- src/lib.rt:83:5
 gap-requires : tie.Need-gap-requires
 gap-requires c κs = search needs
 
--- src/lib.rt:78:1
 returns : tie.Need-returns
 returns c = rw (c .gap .ensures)
 

@@ -8,23 +8,18 @@ use Rattle.fields.proofs.gap.Reads as gap-reads
 use Rattle.fields.proofs.placed.Reads as placed-reads
 use Rattle.fields.proofs.plain.Reads as plain-reads
 
--- src/lib.rt:98:24
 plain-requires : tie.Need-plain-requires
 plain-requires c κs = search needs
 
--- src/lib.rt:98:55
 after-requires : tie.Need-after-requires
 after-requires c κs = search needs
 
--- src/lib.rt:98:9
 placed-requires : tie.Need-placed-requires
 placed-requires c κs = search needs
 
--- src/lib.rt:105:5
 gap-requires : tie.Need-gap-requires
 gap-requires c κs = search needs
 
--- src/lib.rt:95:1
 returns : tie.Need-returns
 returns c = rw (c .gap .ensures, c .before .placed .ensures, c .before .before .after .ensures, c .before .before .before .plain .ensures)
 

@@ -2,36 +2,25 @@ use Rattle.listing.specs.Over.{bytes-none, bytes-some}
 use borrow.Author.Needs.{needs}
 use Rattle.listing.proofs.bytes.Statement.{statement}
 use Rattle.listing.proofs.bytes.Tie as tie
-use Rattle.listing.proofs.bytes.Reads as reads
-use Rattle.listing.proofs.bytes.Lts as lts
-use Rattle.listing.proofs.add.Reads as add-reads
-use Rattle.listing.proofs.pairs.Reads as pairs-reads
 
--- src/lib.rt:180:20
 slice-aggregate-add : tie.Need-slice-aggregate-add
 slice-aggregate-add c = search needs
 
--- src/lib.rt:180:9
 add-requires : tie.Need-add-requires
 add-requires c κs = rw (bytes-none (c .before .before .before .before .before .args .s .now) (c .before .before .if1 .taken)) at (c .before .before .before .before .before .pre)
 
--- src/lib.rt:180:9
 same-length : tie.Need-same-length
 same-length c = search needs
 
--- src/lib.rt:180:9
 returns : tie.Need-returns
 returns c = rw (bytes-none (c .before .before .before .before .before .before .before .before .args .s .now) (c .before .before .before .before .before .if1 .taken)) (c .before .before .add .ensures)
 
--- src/lib.rt:182:5
 pairs-requires : tie.Need-pairs-requires
 pairs-requires c κs = rw (bytes-some (c .before .before .before .before .args .s .now) (c .before .if1 .left)) at (c .before .before .before .before .pre)
 
--- src/lib.rt:175:1
 same-length-2 : tie.Need-same-length-2
 same-length-2 c = search needs
 
--- src/lib.rt:175:1
 returns-2 : tie.Need-returns-2
 returns-2 c = rw (bytes-some (c .before .before .before .before .before .before .before .args .s .now) (c .before .before .before .before .if1 .left)) (c .before .before .pairs .ensures)
 

@@ -2,68 +2,49 @@ use borrow.Author.Tests.{ne-eqb}
 use borrow.Author.Needs.{needs}
 use Rattle.listing.proofs.form.Statement.{statement}
 use Rattle.listing.proofs.form.Tie as tie
-use Rattle.listing.proofs.form.Reads as reads
-use Rattle.listing.proofs.form.Lts as lts
-use Rattle.listing.proofs.add.Reads as add-reads
-use Rattle.listing.proofs.decimal.Reads as decimal-reads
 
--- src/lib.rt:216:18
 slice-aggregate-add : tie.Need-slice-aggregate-add
 slice-aggregate-add c = search needs
 
--- src/lib.rt:216:14
 add-requires : tie.Need-add-requires
 add-requires c κs = rw (c .before .before .match .keys1) at (c .before .before .before .before .pre)
 
--- src/lib.rt:217:20
 slice-aggregate-add-2 : tie.Need-slice-aggregate-add-2
 slice-aggregate-add-2 c = search needs
 
--- src/lib.rt:217:16
 add-requires-2 : tie.Need-add-requires-2
 add-requires-2 c κs = rw (c .before .before .match .keys2) at (c .before .before .before .before .pre)
 
--- src/lib.rt:218:20
 slice-aggregate-add-3 : tie.Need-slice-aggregate-add-3
 slice-aggregate-add-3 c = search needs
 
--- src/lib.rt:218:16
 add-requires-3 : tie.Need-add-requires-3
 add-requires-3 c κs = rw (c .before .before .match .keys3) at (c .before .before .before .before .pre)
 
--- src/lib.rt:219:14
 decimal-requires : tie.Need-decimal-requires
 decimal-requires c κs = let r = c .before .match .rest in simp (ne-eqb _ _ (r .0 .0 .1), ne-eqb _ _ (r .0 .1), ne-eqb _ _ (r .1)) at (c .before .before .before .pre)
 
--- src/lib.rt:211:1
 same-length : tie.Need-same-length
 same-length c = search needs
 
--- src/lib.rt:211:1
 returns : tie.Need-returns
 returns c = rw (c .before .before .before .before .before .match .keys1) (c .before .before .add .ensures)
 
--- src/lib.rt:211:1
 same-length-2 : tie.Need-same-length-2
 same-length-2 c = search needs
 
--- src/lib.rt:211:1
 returns-2 : tie.Need-returns-2
 returns-2 c = rw (c .before .before .before .before .before .match .keys2) (c .before .before .add2 .ensures)
 
--- src/lib.rt:211:1
 same-length-3 : tie.Need-same-length-3
 same-length-3 c = search needs
 
--- src/lib.rt:211:1
 returns-3 : tie.Need-returns-3
 returns-3 c = rw (c .before .before .before .before .before .match .keys3) (c .before .before .add3 .ensures)
 
--- src/lib.rt:211:1
 same-length-4 : tie.Need-same-length-4
 same-length-4 c = search needs
 
--- src/lib.rt:211:1
 returns-4 : tie.Need-returns-4
 returns-4 c = let r = c .before .before .before .before .match .rest in simp (ne-eqb _ _ (r .0 .0 .1), ne-eqb _ _ (r .0 .1), ne-eqb _ _ (r .1)) (c .before .before .decimal .ensures)
 

@@ -3,22 +3,16 @@ use lib.ListN.{List·getD-eq-default}
 use borrow.Author.Needs.{needs}
 use Rattle.listing.proofs.number.Statement.{statement}
 use Rattle.listing.proofs.number.Tie as tie
-use Rattle.listing.proofs.number.Reads as reads
-use Rattle.listing.proofs.number.Lts as lts
 
--- src/lib.rt:227:22
 mul-result : tie.Need-mul-result
 mul-result c = search needs
 
--- src/lib.rt:227:22
 shared-slice-read-result : tie.Need-shared-slice-read-result
 shared-slice-read-result c = search needs
 
--- src/lib.rt:224:1
 returns : tie.Need-returns
 returns c = search needs
 
--- src/lib.rt:224:1
 returns-2 : tie.Need-returns-2
 returns-2 c = sym (List·getD-eq-default (c .before .args .v .now) 0 (c .if1 .left))
 

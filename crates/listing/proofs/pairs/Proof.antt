@@ -1,16 +1,12 @@
 use Prim.Native.Nat.{ℕ, _+_, _-_, _≤_}
-use mathlib.Core.Path.{_≡_, refl, sym, ap, subst, _∙_}
-use mathlib.Core.List.{List, []}
+use mathlib.Core.Path.{refl, sym, ap, subst}
+use mathlib.Core.List.{List}
 use native.Mathlib.Omega.{arith}
 use lib.ListN.{length, getD, drop}
 use Rattle.listing.specs.Text.{digits, pairs}
 use Rattle.listing.specs.Over.{Left, left-room, left-next, left-none, length-digits, pairs-at, pairs-none}
 use Rattle.listing.proofs.pairs.Statement.{statement}
 use Rattle.listing.proofs.pairs.Tie as tie
-use Rattle.listing.proofs.pairs.Reads as reads
-use Rattle.listing.proofs.pairs.Lts as lts
-use Rattle.listing.proofs.spell.Reads as spell-reads
-use Rattle.listing.proofs.wide.Reads as wide-reads
 
 abbrev Inv-loop : tie.InvT-loop
 Inv-loop s out₀ at i₀ to₀ out i to = (i ≤ length s) × Left (pairs (drop i s)) to out (pairs s) at out₀
@@ -18,60 +14,51 @@ Inv-loop s out₀ at i₀ to₀ out i to = (i ≤ length s) × Left (pairs (drop
 abbrev μ-loop : tie.MeasureT-loop
 μ-loop s out₀ at i₀ to₀ out i to = length s - i
 
--- src/lib.rt:161:5
 loop-holds : tie.Need-loop-holds Inv-loop μ-loop
 loop-holds c = (omega arith, record { behind = refl; long = refl; gives = refl })
 
--- src/lib.rt:162:20
 shared-slice-read-wide : tie.Need-shared-slice-read-wide Inv-loop μ-loop
 shared-slice-read-wide c = omega arith
 
--- src/lib.rt:162:15
 wide-requires : tie.Need-wide-requires Inv-loop μ-loop
 wide-requires c κs = tt
 
--- src/lib.rt:162:9
 spell-requires : tie.Need-spell-requires Inv-loop μ-loop
-spell-requires c κs = 
+spell-requires c κs =
     let s = c .before .before .before .before .before .before .before .args .s .now in
     let i = c .before .before .before .before .loop .i in
     let b = getD s i 0 in
     omega (arith, length-digits 16 2 b, left-room (c .before .before .before .before .loop .inv .1) (c .before .before .before .before .before .before .before .pre) (digits 16 2 b) (pairs (drop (i + 1) s)) (pairs-at s i (c .before .before .before .loop-test .taken)))
 
--- src/lib.rt:163:9
 add-to : tie.Need-add-to Inv-loop μ-loop
-add-to c = 
+add-to c =
     let s = c .before .before .before .before .before .before .before .before .before .before .args .s .now in
     let i = c .before .before .before .before .before .before .before .loop .i in
     let b = getD s i 0 in
     omega (arith, length-digits 16 2 b, left-room (c .before .before .before .before .before .before .before .loop .inv .1) (c .before .before .before .before .before .before .before .before .before .before .pre) (digits 16 2 b) (pairs (drop (i + 1) s)) (pairs-at s i (c .before .before .before .before .before .before .loop-test .taken)), c .before .before .before .before .before .before .before .loop .inv .1 .long, c .before .before .before .before .before .before .before .before .before .before .good)
 
--- src/lib.rt:164:9
 add-i : tie.Need-add-i Inv-loop μ-loop
 add-i c = omega arith
 
--- src/lib.rt:161:5
 loop-less : tie.Need-loop-less Inv-loop μ-loop
 loop-less c = omega arith
 
--- src/lib.rt:161:5
 loop-again : tie.Need-loop-again Inv-loop μ-loop
-loop-again c = 
+loop-again c =
     let s = c .before .before .before .before .before .before .before .before .before .before .args .s .now in
     let i = c .before .before .before .before .before .before .before .loop .i in
     let b = getD s i 0 in
-    let to = c .before .before .before .before .before .before .before .loop .to in
-    ( omega arith
-    , left-next (c .before .before .before .before .before .before .before .loop .inv .1) (c .before .before .before .before .before .before .before .before .before .before .pre) (digits 16 2 b) (pairs (drop (i + 1) s)) (pairs-at s i (c .before .before .before .before .before .before .loop-test .taken))
-      (ap (λ (n : ℕ). to + n) (sym (length-digits 16 2 b)), rw (c .before .before .before .before .wide .ensures) at (c .before .before .spell .ensures)))
+    let to = c .before .before .before .before .before .before .before .loop .to in (
+      omega arith,
+      left-next (c .before .before .before .before .before .before .before .loop .inv .1) (c .before .before .before .before .before .before .before .before .before .before .pre) (digits 16 2 b) (pairs (drop (i + 1) s)) (pairs-at s i (c .before .before .before .before .before .before .loop-test .taken))
+          (ap (λ (n : ℕ). to + n) (sym (length-digits 16 2 b)), rw (c .before .before .before .before .wide .ensures) at (c .before .before .spell .ensures)),
+    )
 
--- src/lib.rt:155:1
 same-length : tie.Need-same-length Inv-loop μ-loop
 same-length c = c .before .loop .inv .1 .long
 
--- src/lib.rt:155:1
 returns : tie.Need-returns Inv-loop μ-loop
-returns c = 
+returns c =
     let s = c .before .before .before .before .args .s .now in
     let l = c .before .loop in
     left-none (l .to) (l .out) (pairs s) (c .before .before .before .before .args .at) (c .before .before .before .before .args .out .now)

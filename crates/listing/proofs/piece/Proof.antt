@@ -2,117 +2,82 @@ use borrow.Author.Tests.{ne-eqb}
 use borrow.Author.Needs.{needs}
 use Rattle.listing.proofs.piece.Statement.{statement}
 use Rattle.listing.proofs.piece.Tie as tie
-use Rattle.listing.proofs.piece.Reads as reads
-use Rattle.listing.proofs.piece.Lts as lts
-use Rattle.listing.proofs.add.Reads as add-reads
-use Rattle.listing.proofs.address.Reads as address-reads
-use Rattle.listing.proofs.decimal.Reads as decimal-reads
-use Rattle.listing.proofs.form.Reads as form-reads
-use Rattle.listing.proofs.number.Reads as number-reads
-use Rattle.listing.proofs.part.Reads as part-reads
-use Rattle.listing.proofs.program.Reads as program-reads
 
--- src/lib.rt:250:25
 number-requires : tie.Need-number-requires
 number-requires c κs = search needs
 
--- src/lib.rt:250:17
 decimal-requires : tie.Need-decimal-requires
 decimal-requires c κs = rw (c .before .before .match .keys1, ← c .before .number .ensures) at (c .before .before .before .before .before .before .pre .0)
 
--- src/lib.rt:251:25
 number-requires-2 : tie.Need-number-requires-2
 number-requires-2 c κs = search needs
 
--- src/lib.rt:251:17
 address-requires : tie.Need-address-requires
 address-requires c κs = rw (c .before .before .match .keys2, ← c .before .number2 .ensures) at (c .before .before .before .before .before .before .pre .0)
 
--- src/lib.rt:252:25
 number-requires-3 : tie.Need-number-requires-3
 number-requires-3 c κs = search needs
 
--- src/lib.rt:252:49
 add-number : tie.Need-add-number
 add-number c = search needs
 
--- src/lib.rt:252:39
 number-requires-4 : tie.Need-number-requires-4
 number-requires-4 c κs = search needs
 
--- src/lib.rt:252:17
 part-requires : tie.Need-part-requires
 part-requires c κs = rw (c .before .before .before .match .keys3, ← c .before .before .number3 .ensures, ← c .before .number4 .ensures) at (c .before .before .before .before .before .before .before .pre .0)
 
--- src/lib.rt:253:25
 number-requires-5 : tie.Need-number-requires-5
 number-requires-5 c κs = search needs
 
--- src/lib.rt:253:17
 program-requires : tie.Need-program-requires
 program-requires c κs = rw (c .before .before .match .keys4, ← c .before .number5 .ensures) at (c .before .before .before .before .before .before .pre .0)
 
--- src/lib.rt:254:22
 number-requires-6 : tie.Need-number-requires-6
 number-requires-6 c κs = search needs
 
--- src/lib.rt:254:17
 form-requires : tie.Need-form-requires
 form-requires c κs = rw (c .before .before .match .keys5, ← c .before .number6 .ensures) at (c .before .before .before .before .before .before .pre .0)
 
--- src/lib.rt:255:18
 slice-aggregate-add : tie.Need-slice-aggregate-add
 slice-aggregate-add c = search needs
 
--- src/lib.rt:255:14
 add-requires : tie.Need-add-requires
 add-requires c κs = let r = c .before .before .match .rest in simp (ne-eqb _ _ (r .0 .0 .0 .0 .1), ne-eqb _ _ (r .0 .0 .0 .1), ne-eqb _ _ (r .0 .0 .1), ne-eqb _ _ (r .0 .1), ne-eqb _ _ (r .1)) at (c .before .before .before .before .before .before .pre .0)
 
--- src/lib.rt:245:1
 same-length : tie.Need-same-length
 same-length c = search needs
 
--- src/lib.rt:245:1
 returns : tie.Need-returns
 returns c = rw (c .before .before .before .before .before .match .keys1, ← c .before .before .before .before .number .ensures) (c .before .before .decimal .ensures)
 
--- src/lib.rt:245:1
 same-length-2 : tie.Need-same-length-2
 same-length-2 c = search needs
 
--- src/lib.rt:245:1
 returns-2 : tie.Need-returns-2
 returns-2 c = rw (c .before .before .before .before .before .match .keys2, ← c .before .before .before .before .number2 .ensures) (c .before .before .address .ensures)
 
--- src/lib.rt:245:1
 same-length-3 : tie.Need-same-length-3
 same-length-3 c = search needs
 
--- src/lib.rt:245:1
 returns-3 : tie.Need-returns-3
 returns-3 c = rw (c .before .before .before .before .before .before .match .keys3, ← c .before .before .before .before .before .number3 .ensures, ← c .before .before .before .before .number4 .ensures) (c .before .before .part .ensures)
 
--- src/lib.rt:245:1
 same-length-4 : tie.Need-same-length-4
 same-length-4 c = search needs
 
--- src/lib.rt:245:1
 returns-4 : tie.Need-returns-4
 returns-4 c = rw (c .before .before .before .before .before .match .keys4, ← c .before .before .before .before .number5 .ensures) (c .before .before .program .ensures)
 
--- src/lib.rt:245:1
 same-length-5 : tie.Need-same-length-5
 same-length-5 c = search needs
 
--- src/lib.rt:245:1
 returns-5 : tie.Need-returns-5
 returns-5 c = rw (c .before .before .before .before .before .match .keys5, ← c .before .before .before .before .number6 .ensures) (c .before .before .form .ensures)
 
--- src/lib.rt:245:1
 same-length-6 : tie.Need-same-length-6
 same-length-6 c = search needs
 
--- src/lib.rt:245:1
 returns-6 : tie.Need-returns-6
 returns-6 c = let r = c .before .before .before .before .before .match .rest in simp (ne-eqb _ _ (r .0 .0 .0 .0 .1), ne-eqb _ _ (r .0 .0 .0 .1), ne-eqb _ _ (r .0 .0 .1), ne-eqb _ _ (r .0 .1), ne-eqb _ _ (r .1)) (c .before .before .add .ensures)
 

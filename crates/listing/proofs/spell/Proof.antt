@@ -1,5 +1,5 @@
-use Prim.Native.Nat.{_≤_, _+_}
-use mathlib.Core.Path.{_≡_, refl, sym, _∙_}
+use Prim.Native.Nat.{_≤_}
+use mathlib.Core.Path.{_≡_, refl, _∙_}
 use native.Mathlib.Omega.{arith}
 use native.Mathlib.Nat.{mod-lt}
 use lib.ListN.{length, length-set}
@@ -8,9 +8,6 @@ use Rattle.listing.specs.Text.{digits}
 use Rattle.listing.specs.Over.{over-none, over-digit}
 use Rattle.listing.proofs.spell.Statement.{statement}
 use Rattle.listing.proofs.spell.Tie as tie
-use Rattle.listing.proofs.spell.Reads as reads
-use Rattle.listing.proofs.spell.Lts as lts
-use Rattle.listing.proofs.digit.Reads as digit-reads
 
 abbrev Inv-loop : tie.InvT-loop
 Inv-loop n base k out₀ at rest₀ i₀ out rest i = (i ≤ k) × (length out ≡ length out₀) × (over (digits base i rest) at out ≡ over (digits base k n) at out₀)
@@ -18,54 +15,44 @@ Inv-loop n base k out₀ at rest₀ i₀ out rest i = (i ≤ k) × (length out �
 abbrev μ-loop : tie.MeasureT-loop
 μ-loop n base k out₀ at rest₀ i₀ out rest i = i
 
--- src/lib.rt:106:5
 loop-holds : tie.Need-loop-holds Inv-loop μ-loop
 loop-holds c = (omega arith, refl, refl)
 
--- src/lib.rt:107:9
 sub-i : tie.Need-sub-i Inv-loop μ-loop
 sub-i c = omega arith
 
--- src/lib.rt:108:29
 rem-digit : tie.Need-rem-digit Inv-loop μ-loop
 rem-digit c = omega arith
 
--- src/lib.rt:108:23
 digit-requires : tie.Need-digit-requires Inv-loop μ-loop
 digit-requires c κs = omega (arith, mod-lt (c .before .loop .rest) {m = c .before .before .before .args .base} (omega arith))
 
--- src/lib.rt:108:13
 add-out : tie.Need-add-out Inv-loop μ-loop
 add-out c = omega arith
 
--- src/lib.rt:108:9
 slice-write-out : tie.Need-slice-write-out Inv-loop μ-loop
 slice-write-out c = omega arith
 
--- src/lib.rt:109:9
 div-rest : tie.Need-div-rest Inv-loop μ-loop
 div-rest c = omega arith
 
--- src/lib.rt:106:5
 loop-less : tie.Need-loop-less Inv-loop μ-loop
 loop-less c = omega arith
 
--- src/lib.rt:106:5
 loop-again : tie.Need-loop-again Inv-loop μ-loop
-loop-again c = 
+loop-again c =
     let a = c .before .before .before .before .args in
-    let l = c .before .before .loop in
-    ( omega arith
-    , simp length-set (l .inv .1)
-    , rw (c .digit .ensures) (over-digit (a .base) (l .i) (l .rest) (a .at) (l .out) (c .before .loop-test .taken) (omega arith) ∙ l .inv .2))
+    let l = c .before .before .loop in (
+      omega arith,
+      simp length-set (l .inv .1),
+      rw (c .digit .ensures) (over-digit (a .base) (l .i) (l .rest) (a .at) (l .out) (c .before .loop-test .taken) (omega arith) ∙ l .inv .2),
+    )
 
--- src/lib.rt:100:1
 same-length : tie.Need-same-length Inv-loop μ-loop
 same-length c = c .before .loop .inv .1
 
--- src/lib.rt:100:1
 returns : tie.Need-returns Inv-loop μ-loop
-returns c = 
+returns c =
     let a = c .before .before .before .args in
     let l = c .before .loop in
     over-none (a .base) (l .i) (l .rest) (a .at) (l .out) (c .loop-test .left) ∙ l .inv .2

@@ -1,30 +1,22 @@
 use borrow.Author.Tests.{ne-eqb}
 use Rattle.listing.proofs.takes.Statement.{statement}
 use Rattle.listing.proofs.takes.Tie as tie
-use Rattle.listing.proofs.takes.Reads as reads
-use Rattle.listing.proofs.takes.Lts as lts
 
--- src/lib.rt:231:1
 returns : tie.Need-returns
 returns c = rw (c .match .keys1)
 
--- src/lib.rt:231:1
 returns-2 : tie.Need-returns-2
 returns-2 c = rw (c .match .keys2)
 
--- src/lib.rt:231:1
 returns-3 : tie.Need-returns-3
 returns-3 c = rw (c .match .keys3)
 
--- src/lib.rt:231:1
 returns-4 : tie.Need-returns-4
 returns-4 c = rw (c .match .keys4)
 
--- src/lib.rt:231:1
 returns-5 : tie.Need-returns-5
 returns-5 c = rw (c .match .keys5)
 
--- src/lib.rt:231:1
 returns-6 : tie.Need-returns-6
 returns-6 c = let r = c .match .rest in simp (ne-eqb _ _ (r .0 .0 .0 .0 .1), ne-eqb _ _ (r .0 .0 .0 .1), ne-eqb _ _ (r .0 .0 .1), ne-eqb _ _ (r .0 .1), ne-eqb _ _ (r .1))
 

@@ -6,8 +6,6 @@ use Rattle.listing.specs.Text.{trimmed}
 use Rattle.listing.specs.Over.{trim-zero, trim-other, trim-last}
 use Rattle.listing.proofs.zeros.Statement.{statement}
 use Rattle.listing.proofs.zeros.Tie as tie
-use Rattle.listing.proofs.zeros.Reads as reads
-use Rattle.listing.proofs.zeros.Lts as lts
 
 abbrev Inv-loop : tie.InvT-loop
 Inv-loop d i₀ i = (i ≤ length d) × (trimmed (drop i d) ≡ trimmed d)
@@ -15,35 +13,27 @@ Inv-loop d i₀ i = (i ≤ length d) × (trimmed (drop i d) ≡ trimmed d)
 abbrev μ-loop : tie.MeasureT-loop
 μ-loop d i₀ i = length d - i
 
--- src/lib.rt:128:5
 loop-holds : tie.Need-loop-holds Inv-loop μ-loop
 loop-holds c = (omega arith, refl)
 
--- src/lib.rt:128:11
 add-loop : tie.Need-add-loop Inv-loop μ-loop
 add-loop c = omega arith
 
--- src/lib.rt:129:12
 shared-slice-read-if1 : tie.Need-shared-slice-read-if1 Inv-loop μ-loop
 shared-slice-read-if1 c = omega arith
 
--- src/lib.rt:130:13
 returns : tie.Need-returns Inv-loop μ-loop
 returns c = (omega arith, sym (trim-other (c .before .before .before .before .args .d .now) (c .before .before .before .loop .i) (c .before .before .loop-test .taken) (c .if1 .taken)) ∙ c .before .before .before .loop .inv .1)
 
--- src/lib.rt:132:9
 add-i : tie.Need-add-i Inv-loop μ-loop
 add-i c = omega arith
 
--- src/lib.rt:128:5
 loop-less : tie.Need-loop-less Inv-loop μ-loop
 loop-less c = omega arith
 
--- src/lib.rt:128:5
 loop-again : tie.Need-loop-again Inv-loop μ-loop
 loop-again c = (omega arith, trim-zero (c .before .before .before .before .args .d .now) (c .before .before .before .loop .i) (c .before .before .loop-test .taken) (c .if1 .left) ∙ c .before .before .before .loop .inv .1)
 
--- src/lib.rt:124:1
 returns-2 : tie.Need-returns-2 Inv-loop μ-loop
 returns-2 c = (omega arith, sym (trim-last (c .before .before .args .d .now) (c .before .loop .i) (c .loop-test .left)) ∙ c .before .loop .inv .1)
 

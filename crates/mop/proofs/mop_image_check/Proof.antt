@@ -5,23 +5,18 @@ use Rattle.mop.proofs.mop_image_check.Reads as reads
 use Rattle.mop.proofs.mop_image_check.Lts as lts
 use Rattle.image.proofs.check.Reads as check-reads
 
--- src/lib.rt:280:9
 check-requires : tie.Need-check-requires
 check-requires c κs = search needs
 
--- src/lib.rt:283:13
 enum-known-answer : tie.Need-enum-known-answer
 enum-known-answer c = search needs
 
--- src/lib.rt:292:26
 enum-known-answer-2 : tie.Need-enum-known-answer-2
 enum-known-answer-2 c = search needs
 
--- src/lib.rt:276:1
 returns : tie.Need-returns
 returns c = rw (← c .before .before .before .check .ensures, c .before .answer .given .1)
 
--- src/lib.rt:276:1
 returns-2 : tie.Need-returns-2
 returns-2 c = rw (← c .before .before .before .check .ensures, c .before .answer2 .given .1)
 

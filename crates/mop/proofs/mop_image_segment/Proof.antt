@@ -5,27 +5,21 @@ use Rattle.mop.proofs.mop_image_segment.Reads as reads
 use Rattle.mop.proofs.mop_image_segment.Lts as lts
 use Rattle.image.proofs.segment.Reads as segment-reads
 
--- src/lib.rt:305:9
 segment-requires : tie.Need-segment-requires
 segment-requires c κs = search needs
 
--- src/lib.rt:308:13
 enum-known-answer : tie.Need-enum-known-answer
 enum-known-answer c = search needs
 
--- src/lib.rt:319:24
 enum-known-answer-2 : tie.Need-enum-known-answer-2
 enum-known-answer-2 c = search needs
 
--- src/lib.rt:301:1
 returns : tie.Need-returns
 returns c = rw (← c .before .before .before .before .segment .ensures, c .before .before .answer .given .1, c .if1 .taken)
 
--- src/lib.rt:301:1
 returns-2 : tie.Need-returns-2
 returns-2 c = rw (← c .before .before .before .before .segment .ensures, c .before .before .answer .given .1, c .if1 .left)
 
--- src/lib.rt:301:1
 returns-3 : tie.Need-returns-3
 returns-3 c = rw (← c .before .before .before .segment .ensures, c .before .answer2 .given .1)
 

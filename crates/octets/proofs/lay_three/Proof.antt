@@ -6,19 +6,15 @@ use Rattle.octets.proofs.lay_three.Reads as reads
 use Rattle.octets.proofs.lay_three.Lts as lts
 use Rattle.octets.proofs.lay_four.Reads as lay-four-reads
 
--- src/lib.rt:122:32
 slice-aggregate-lay-four : tie.Need-slice-aggregate-lay-four
 slice-aggregate-lay-four c = search needs
 
--- src/lib.rt:122:5
 lay-four-requires : tie.Need-lay-four-requires
 lay-four-requires c κs = search needs
 
--- src/lib.rt:118:1
 same-length : tie.Need-same-length
 same-length c = search needs
 
--- src/lib.rt:118:1
 returns : tie.Need-returns
 returns c =
     let a = c .before .before .before .before .before .before .before .before .before .args in

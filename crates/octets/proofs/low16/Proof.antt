@@ -6,15 +6,12 @@ use Rattle.octets.proofs.low16.Tie as tie
 use Rattle.octets.proofs.low16.Reads as reads
 use Rattle.octets.proofs.low16.Lts as lts
 
--- src/lib.rt:60:6
 cast-t3 : tie.Need-cast-t3
 cast-t3 c = search needs
 
--- src/lib.rt:60:23
 cast-t6 : tie.Need-cast-t6
 cast-t6 c = search needs
 
--- src/lib.rt:57:1
 returns : tie.Need-returns
 unfolding low
 returns c = refl

@@ -6,23 +6,18 @@ use Rattle.octets.proofs.low32.Tie as tie
 use Rattle.octets.proofs.low32.Reads as reads
 use Rattle.octets.proofs.low32.Lts as lts
 
--- src/lib.rt:68:9
 cast-t3 : tie.Need-cast-t3
 cast-t3 c = search needs
 
--- src/lib.rt:69:9
 cast-t6 : tie.Need-cast-t6
 cast-t6 c = search needs
 
--- src/lib.rt:70:9
 cast-t10 : tie.Need-cast-t10
 cast-t10 c = search needs
 
--- src/lib.rt:71:9
 cast-t15 : tie.Need-cast-t15
 cast-t15 c = search needs
 
--- src/lib.rt:64:1
 returns : tie.Need-returns
 unfolding low
 returns c = refl

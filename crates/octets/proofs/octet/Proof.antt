@@ -6,15 +6,12 @@ use Rattle.octets.proofs.octet.Tie as tie
 use Rattle.octets.proofs.octet.Reads as reads
 use Rattle.octets.proofs.octet.Lts as lts
 
--- src/lib.rt:33:23
 shared-slice-read-result : tie.Need-shared-slice-read-result
 shared-slice-read-result c = search needs
 
--- src/lib.rt:30:1
 returns : tie.Need-returns
 returns c = search needs
 
--- src/lib.rt:30:1
 returns-2 : tie.Need-returns-2
 returns-2 c = rw (List·getD-eq-default (c .before .args .s .now) 0 {n = c .before .args .at} (omega arith))
 

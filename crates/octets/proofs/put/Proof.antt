@@ -8,43 +8,34 @@ use Rattle.octets.proofs.put.Reads as reads
 use Rattle.octets.proofs.put.Lts as lts
 use Rattle.bytes.proofs.copy.Reads as copy-reads
 
--- src/lib.rt:81:9
 returns : tie.Need-returns
 returns c =
     let a = c .before .before .before .args in
     put-refused (a .src .now) (a .at) (a .out .now) (omega arith)
 
--- src/lib.rt:83:8
 sub-if2 : tie.Need-sub-if2
 sub-if2 c = search needs
 
--- src/lib.rt:84:9
 returns-2 : tie.Need-returns-2
 returns-2 c =
     let a = c .before .before .before .before .args in
     put-refused (a .src .now) (a .at) (a .out .now) (omega arith)
 
--- src/lib.rt:86:22
 sub-copy : tie.Need-sub-copy
 sub-copy c = search needs
 
--- src/lib.rt:86:22
 part-copy-start : tie.Need-part-copy-start
 part-copy-start c = search needs
 
--- src/lib.rt:86:22
 part-copy-end : tie.Need-part-copy-end
 part-copy-end c = search needs
 
--- src/lib.rt:86:5
 copy-requires : tie.Need-copy-requires
 copy-requires c κs = search needs
 
--- src/lib.rt:76:1
 same-length : tie.Need-same-length
 same-length c = search needs
 
--- src/lib.rt:76:1
 returns-3 : tie.Need-returns-3
 returns-3 c =
     let a = c .before .before .before .before .before .before .before .before .args in

@@ -1,0 +1,28 @@
+-- `load::request` meets its contract.
+use borrow.Author.Needs.{needs}
+use borrow.Author.Tests.{eq-eqb, ne-eqb}
+use Rattle.load.proofs.request.Statement.{statement}
+use Rattle.load.proofs.request.Tie as tie
+
+ignored-requires : tie.Need-ignored-requires
+ignored-requires c κs = search needs
+
+returns : tie.Need-returns
+returns c = simp (ne-eqb _ _ (c .before .if1 .taken)) (c .ignored .ensures)
+
+ignored-requires-2 : tie.Need-ignored-requires-2
+ignored-requires-2 c κs = search needs
+
+returns-2 : tie.Need-returns-2
+returns-2 c = simp (eq-eqb _ _ (c .before .before .if1 .left), ne-eqb _ _ (c .before .if2 .taken)) (c .ignored2 .ensures)
+
+goes-out-requires : tie.Need-goes-out-requires
+goes-out-requires c κs = search needs
+
+returns-3 : tie.Need-returns-3
+returns-3 c = simp (eq-eqb _ _ (c .before .before .if1 .left), eq-eqb _ _ (c .before .if2 .left)) (c .goes-out .ensures)
+
+pub request-spec : {M : Type 1} → statement M
+request-spec =
+    tie.close
+    (tie.spec ignored-requires returns ignored-requires-2 returns-2 goes-out-requires returns-3)
