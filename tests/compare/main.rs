@@ -1,7 +1,5 @@
 //! Compares the proved library with the plain implementation: the reader, the
-//! writers, the image check and the segments; and, if built with `--cfg ends`,
-//! the steps of the machine and of the host's load and dump; with
-//! `--cfg loop_test` besides, those of its loop test.
+//! writers, the image check and the segments.
 //!
 //!     compare          a run from a fixed seed, and one from a fresh seed
 //!     compare SEED     a run from this seed, to repeat one
@@ -9,8 +7,6 @@
 //! Ends with 1 on any difference, and if an answer that can occur never came.
 
 mod beyond;
-#[cfg(ends)]
-mod ends;
 mod images;
 mod make;
 mod random;
@@ -27,7 +23,6 @@ use tally::{Tally, commas};
 const FIXED_SEED: u64 = 1977;
 const FRAMES_LEAST: u64 = 200_000;
 const IMAGES_LEAST: u64 = 20_000;
-const STEPS_LEAST: u64 = if cfg!(ends) { 100_000 } else { 0 };
 
 /// One run.
 pub struct Compare {
@@ -60,10 +55,9 @@ fn main() -> ExitCode {
     let runs: Vec<(Tally, bool)> = seeds.into_iter().map(run).collect();
     let sum = |count: fn(&Tally) -> u64| runs.iter().map(|(tally, _)| count(tally)).sum();
     println!(
-        "compare: {} frames, {} images, {} steps of the ends, {} differences",
+        "compare: {} frames, {} images, {} differences",
         commas(sum(|tally| tally.frames)),
         commas(sum(|tally| tally.images)),
-        commas(sum(|tally| tally.steps)),
         commas(sum(|tally| tally.differences)),
     );
     if runs.iter().all(|(_, good)| *good) {
@@ -90,8 +84,6 @@ fn run(seed: u64) -> (Tally, bool) {
     compare.all_writers();
     compare.all_images();
     compare.beyond_32_bits();
-    #[cfg(ends)]
-    compare.all_ends();
     let tally = compare.tally;
     tally.print();
     println!("  {:.1} s", start.elapsed().as_secs_f64());
@@ -107,10 +99,9 @@ fn judge(tally: &Tally) -> bool {
     for gap in &gaps {
         println!("UNEXPECTED {gap}");
     }
-    let enough =
-        tally.frames >= FRAMES_LEAST && tally.images >= IMAGES_LEAST && tally.steps >= STEPS_LEAST;
+    let enough = tally.frames >= FRAMES_LEAST && tally.images >= IMAGES_LEAST;
     if !enough {
-        println!("TOO FEW frames, images or steps");
+        println!("TOO FEW frames or images");
     }
     tally.differences == 0 && gaps.is_empty() && enough
 }

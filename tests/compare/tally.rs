@@ -75,10 +75,6 @@ pub struct Tally {
     pub frames: u64,
     pub images: u64,
     pub differences: u64,
-    /// Calls of the two ends.
-    pub steps: u64,
-    #[cfg(ends)]
-    pub ends: crate::ends::Seen,
     kinds: BTreeMap<(&'static str, &'static str), u64>,
     reader: BTreeMap<u8, Refusals>,
     unlisted: Refusals,
@@ -150,8 +146,6 @@ impl Tally {
         for (name, row) in self.sums() {
             println!("    {name:<16}{}", seen(&row));
         }
-        #[cfg(ends)]
-        self.ends.print();
     }
 
     /// Answers that can occur and never did, or the reverse.
@@ -164,12 +158,10 @@ impl Tally {
                 }
             }
         }
-        #[cfg(ends)]
-        gaps.extend(self.ends.gaps());
         gaps
     }
 
-    pub fn kind(&mut self, group: &'static str, kind: &'static str) {
+    fn kind(&mut self, group: &'static str, kind: &'static str) {
         *self.kinds.entry((group, kind)).or_default() += 1;
     }
 
@@ -223,7 +215,6 @@ fn seen(row: &Refusals) -> String {
 }
 
 /// Bytes shown in hexadecimal, a long string by its two ends.
-#[derive(Clone, Copy)]
 pub struct Hex<'a>(pub &'a [u8]);
 
 impl Debug for Hex<'_> {

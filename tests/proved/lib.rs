@@ -4,15 +4,6 @@
 //! below and, for the header, in layout.c; the rest is left to the eye and the
 //! comparison. A slice goes over as a pointer and a length.
 
-#[cfg(ends)]
-mod ends;
-#[cfg(loop_test)]
-mod looping;
-#[cfg(ends)]
-pub use ends::*;
-#[cfg(loop_test)]
-pub use looping::*;
-
 use std::mem::offset_of;
 use std::ptr;
 use std::sync::atomic::{AtomicBool, Ordering};
