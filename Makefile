@@ -30,14 +30,14 @@ $(OUT)/libmop_plain.rlib: $(wildcard tests/independent/*.rs)
 	$(RUSTC) --crate-type rlib --crate-name mop_plain -o $@ tests/independent/lib.rs
 
 # The declarations on the Rust side, and the header's layout held to the same numbers.
-$(OUT)/libmop_proved.rlib: target/staticlib/libmop.a tests/proved/lib.rs tests/proved/layout.c include/mop.h
+$(OUT)/libmop_proved.rlib: target/staticlib/libmop.a $(wildcard tests/proved/*) include/mop.h
 	@mkdir -p $(OUT)
 	gcc $(CFLAGS) -fsyntax-only tests/proved/layout.c
 	$(RUSTC) --crate-type rlib --crate-name mop_proved -L native=target/staticlib -o $@ tests/proved/lib.rs
 
 BOTH = --extern mop_plain=$(OUT)/libmop_plain.rlib --extern mop_proved=$(OUT)/libmop_proved.rlib
 
-$(OUT)/compare: $(OUT)/libmop_plain.rlib $(OUT)/libmop_proved.rlib $(wildcard tests/compare/*.rs)
+$(OUT)/compare: $(OUT)/libmop_plain.rlib $(OUT)/libmop_proved.rlib $(shell find tests/compare -name '*.rs')
 	$(RUSTC) --crate-name compare $(BOTH) -o $@ tests/compare/main.rs
 
 $(OUT)/bench: $(OUT)/libmop_plain.rlib $(OUT)/libmop_proved.rlib bench/main.rs

@@ -195,7 +195,8 @@ typedef struct mop_machine_settings {
 
 /* Its state: 0 Idle, 1 Offering, 2 Requesting, 3 Loading, 4 Started. The
  * expected number and the last error are Loading's, the transfer address is
- * Started's; elsewhere they are 0. */
+ * Started's; in a state that is not theirs they are not looked at, and a
+ * state that is entered has them 0. */
 typedef struct mop_machine {
     uint32_t transfer;
     uint8_t state;
@@ -214,7 +215,8 @@ typedef struct mop_machine_step {
 
 /* The start of a load (Requesting) and of a dump (Offering), each with its
  * first frame: 10 for a setting or a memory length (at most 16,777,216)
- * outside its range, then 9 for a reply buffer under 1,500 bytes. */
+ * outside its range, then 9 for a reply buffer under 1,500 bytes. A start
+ * that is refused gives the state of the start, and no frame. */
 mop_machine_step mop_machine_start_load(mop_machine_settings settings,
     const uint8_t *memory, size_t memory_length,
     uint8_t *reply, size_t reply_length);
@@ -318,6 +320,44 @@ mop_dump_step mop_dump_frame(mop_dump_settings settings, mop_dump session,
     uint8_t *reply, size_t reply_length);
 mop_dump_step mop_dump_timer(mop_dump_settings settings, mop_dump session,
     const uint8_t *buffer, size_t buffer_length,
+    uint8_t *reply, size_t reply_length);
+
+/* ---- The host's loop test -------------------------------------------- */
+
+/* Its settings: the repeats allowed (0 to 255), and the receipt that its
+ * frame carries. */
+typedef struct mop_loop_settings {
+    uint32_t repeats;
+    uint16_t receipt;
+} mop_loop_settings;
+
+/* Its record: the frames sent, the repeats, and the verdict: 0 open, 1 the
+ * data came back as code 26, 2 it came back as code 24 (a plug), 3 given
+ * up. */
+typedef struct mop_loop {
+    uint64_t sent;
+    uint32_t repeats;
+    uint8_t verdict;
+} mop_loop;
+
+typedef struct mop_loop_step {
+    mop_loop session;
+    mop_written answer;
+} mop_loop_step;
+
+/* The start gives the record and the first frame. The settings and data (at
+ * most 1,497 bytes) stay the same over a test. Refusals: 10, then 9, then
+ * the frame's. A start that is refused gives the record of the start, and
+ * no frame. A step on a frame sends nothing. */
+mop_loop_step mop_loop_start(mop_loop_settings settings,
+    const uint8_t *data, size_t data_length,
+    uint8_t *reply, size_t reply_length);
+mop_loop_step mop_loop_frame(mop_loop_settings settings, mop_loop session,
+    const uint8_t *data, size_t data_length,
+    const uint8_t *frame, size_t frame_length,
+    const uint8_t *reply, size_t reply_length);
+mop_loop_step mop_loop_timer(mop_loop_settings settings, mop_loop session,
+    const uint8_t *data, size_t data_length,
     uint8_t *reply, size_t reply_length);
 
 #ifdef __cplusplus

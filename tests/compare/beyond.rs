@@ -9,10 +9,10 @@ use crate::writing::write_proved;
 use crate::{Compare, Wanted, images};
 use mop_plain::frame::Frame;
 
-const BEYOND: usize = 1 << 32;
+pub const BEYOND: usize = 1 << 32;
 const LENGTH: usize = BEYOND + 65_536;
 
-struct Zeros {
+pub struct Zeros {
     start: *mut u8,
 }
 
@@ -22,7 +22,7 @@ impl Zeros {
     }
 
     /// None if the system does not lend that much.
-    fn new() -> Option<Self> {
+    pub fn new() -> Option<Self> {
         // The layout's size is not zero.
         let start = unsafe { alloc_zeroed(Self::layout()) };
         if start.is_null() {
@@ -32,7 +32,7 @@ impl Zeros {
         }
     }
 
-    fn bytes(&mut self) -> &mut [u8] {
+    pub fn bytes(&mut self) -> &mut [u8] {
         // The block has this length, is filled, and is borrowed through self.
         unsafe { slice::from_raw_parts_mut(self.start, LENGTH) }
     }

@@ -22,10 +22,10 @@ const LENGTH: usize = 8;
 
 /// A directory entry, and the file made from some.
 #[derive(Clone, Copy)]
-struct Region {
-    address: u32,
-    offset: u32,
-    length: u32,
+pub struct Region {
+    pub address: u32,
+    pub offset: u32,
+    pub length: u32,
 }
 
 impl Region {
@@ -35,7 +35,7 @@ impl Region {
 }
 
 /// Region bytes, directory, trailer; the count is the number of entries.
-fn build(body: &[u8], regions: &[Region], transfer: u32) -> Vec<u8> {
+pub fn build(body: &[u8], regions: &[Region], transfer: u32) -> Vec<u8> {
     let mut file = body.to_vec();
     for region in regions {
         for number in [region.address, region.offset, region.length] {
@@ -50,14 +50,21 @@ fn build(body: &[u8], regions: &[Region], transfer: u32) -> Vec<u8> {
     file
 }
 
+/// Adjacent regions from address 0 on, each made of the same bytes.
+pub fn shared(body: &[u8], count: u32, transfer: u32) -> Vec<u8> {
+    let length = body.len() as u32;
+    let region = |place| Region {
+        address: place * length,
+        offset: 0,
+        length,
+    };
+    let regions: Vec<Region> = (0..count).map(region).collect();
+    build(body, &regions, transfer)
+}
+
 /// One region of one byte at address 0.
 pub fn smallest() -> Vec<u8> {
-    let region = Region {
-        address: 0,
-        offset: 0,
-        length: 1,
-    };
-    build(&[7], &[region], 0)
+    shared(&[7], 1, 0)
 }
 
 fn set_u32(file: &mut [u8], at: usize, number: u32) {
@@ -79,14 +86,14 @@ fn trailer(file: &[u8]) -> usize {
 }
 
 /// A good image, kept in parts so that they can be spoilt.
-struct Good {
+pub struct Good {
     body: Vec<u8>,
     regions: Vec<Region>,
     transfer: u32,
 }
 
 impl Good {
-    fn new(random: &mut Random, count: usize) -> Good {
+    pub fn new(random: &mut Random, count: usize) -> Good {
         let body_length = match random.below(4) {
             0 => random.range(1, 4),
             1 => random.range(1400, 4000),
@@ -101,7 +108,7 @@ impl Good {
         }
     }
 
-    fn file(&self) -> Vec<u8> {
+    pub fn file(&self) -> Vec<u8> {
         self.with(&self.regions)
     }
 
@@ -594,14 +601,7 @@ impl Compare {
             for length in [FILE_MOST - 1, FILE_MOST, FILE_MOST + 1] {
                 let body_length = length - 16 - 12 * count;
                 let body = self.random.bytes(body_length);
-                let regions: Vec<Region> = (0..count as u32)
-                    .map(|place| Region {
-                        address: place * body_length as u32,
-                        offset: 0,
-                        length: body_length as u32,
-                    })
-                    .collect();
-                let file = build(&body, &regions, self.random.u32());
+                let file = shared(&body, count as u32, self.random.u32());
                 let wanted = if length <= FILE_MOST { 0 } else { 5 };
                 self.image("about 16,777,216 bytes", &file, Some(wanted));
                 if length == FILE_MOST && count == 1 {

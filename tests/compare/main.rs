@@ -1,5 +1,6 @@
 //! Compares the proved library with the plain implementation: the reader, the
-//! writers, the image check and the segments.
+//! writers, the image check and the segments, and the steps of the machine and
+//! of the host's load, dump and loop test.
 //!
 //!     compare          a run from a fixed seed, and one from a fresh seed
 //!     compare SEED     a run from this seed, to repeat one
@@ -7,6 +8,7 @@
 //! Ends with 1 on any difference, and if an answer that can occur never came.
 
 mod beyond;
+mod ends;
 mod images;
 mod make;
 mod random;
@@ -23,6 +25,7 @@ use tally::{Tally, commas};
 const FIXED_SEED: u64 = 1977;
 const FRAMES_LEAST: u64 = 200_000;
 const IMAGES_LEAST: u64 = 20_000;
+const STEPS_LEAST: u64 = 100_000;
 
 /// One run.
 pub struct Compare {
@@ -55,9 +58,10 @@ fn main() -> ExitCode {
     let runs: Vec<(Tally, bool)> = seeds.into_iter().map(run).collect();
     let sum = |count: fn(&Tally) -> u64| runs.iter().map(|(tally, _)| count(tally)).sum();
     println!(
-        "compare: {} frames, {} images, {} differences",
+        "compare: {} frames, {} images, {} steps of the ends, {} differences",
         commas(sum(|tally| tally.frames)),
         commas(sum(|tally| tally.images)),
+        commas(sum(|tally| tally.steps)),
         commas(sum(|tally| tally.differences)),
     );
     if runs.iter().all(|(_, good)| *good) {
@@ -84,6 +88,7 @@ fn run(seed: u64) -> (Tally, bool) {
     compare.all_writers();
     compare.all_images();
     compare.beyond_32_bits();
+    compare.all_ends();
     let tally = compare.tally;
     tally.print();
     println!("  {:.1} s", start.elapsed().as_secs_f64());
@@ -99,9 +104,10 @@ fn judge(tally: &Tally) -> bool {
     for gap in &gaps {
         println!("UNEXPECTED {gap}");
     }
-    let enough = tally.frames >= FRAMES_LEAST && tally.images >= IMAGES_LEAST;
+    let enough =
+        tally.frames >= FRAMES_LEAST && tally.images >= IMAGES_LEAST && tally.steps >= STEPS_LEAST;
     if !enough {
-        println!("TOO FEW frames or images");
+        println!("TOO FEW frames, images or steps");
     }
     tally.differences == 0 && gaps.is_empty() && enough
 }

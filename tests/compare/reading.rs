@@ -125,7 +125,7 @@ impl Compare {
         }
     }
 
-    fn damage(&mut self, frame: &[u8]) -> Vec<u8> {
+    pub fn damage(&mut self, frame: &[u8]) -> Vec<u8> {
         let mut damaged = frame.to_vec();
         let near = damaged.len().min(24);
         let reach = self.random.pick(&[near, near, near, damaged.len()]);

@@ -75,6 +75,9 @@ pub struct Tally {
     pub frames: u64,
     pub images: u64,
     pub differences: u64,
+    /// Calls of the two ends.
+    pub steps: u64,
+    pub ends: crate::ends::Seen,
     kinds: BTreeMap<(&'static str, &'static str), u64>,
     reader: BTreeMap<u8, Refusals>,
     unlisted: Refusals,
@@ -146,6 +149,7 @@ impl Tally {
         for (name, row) in self.sums() {
             println!("    {name:<16}{}", seen(&row));
         }
+        self.ends.print();
     }
 
     /// Answers that can occur and never did, or the reverse.
@@ -158,10 +162,11 @@ impl Tally {
                 }
             }
         }
+        gaps.extend(self.ends.gaps());
         gaps
     }
 
-    fn kind(&mut self, group: &'static str, kind: &'static str) {
+    pub fn kind(&mut self, group: &'static str, kind: &'static str) {
         *self.kinds.entry((group, kind)).or_default() += 1;
     }
 
@@ -215,6 +220,7 @@ fn seen(row: &Refusals) -> String {
 }
 
 /// Bytes shown in hexadecimal, a long string by its two ends.
+#[derive(Clone, Copy)]
 pub struct Hex<'a>(pub &'a [u8]);
 
 impl Debug for Hex<'_> {

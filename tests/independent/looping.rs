@@ -81,11 +81,7 @@ pub fn frame(
 }
 
 /// The timer has run out.
-pub fn timer(
-    settings: Settings,
-    session: &mut Session,
-    reply: &mut [u8],
-) -> Result<Sent, Refusal> {
+pub fn timer(settings: Settings, session: &mut Session, reply: &mut [u8]) -> Result<Sent, Refusal> {
     let reply = check(settings, *session, reply)?;
     if session.verdict != Verdict::Open {
         return Ok(None);

@@ -129,33 +129,27 @@ pub fn frame(
     check(settings, memory)?;
     let reply = Reply::new(reply)?;
     let frame = frame::read(bytes)?;
-    Ok(match (frame, *state) {
-        (
-            Frame::Load {
-                number,
-                address,
-                data,
-            },
-            _,
-        ) => load(state, number, address, data, None, memory, reply),
-        (
-            Frame::LoadTransfer {
-                number,
-                address,
-                data,
-                transfer,
-            },
-            _,
-        ) => load(state, number, address, data, Some(transfer), memory, reply),
-        (Frame::RequestDump { address, count }, State::Idle | State::Offering) => {
+    Ok(match frame {
+        Frame::Load {
+            number,
+            address,
+            data,
+        } => load(state, number, address, data, None, memory, reply),
+        Frame::LoadTransfer {
+            number,
+            address,
+            data,
+            transfer,
+        } => load(state, number, address, data, Some(transfer), memory, reply),
+        Frame::RequestDump { address, count } if matches!(state, State::Idle | State::Offering) => {
             let length = settings.dump_most.min(count.into()) as usize;
             dump(address, length, memory, reply)
         }
-        (Frame::DumpComplete, State::Offering) => {
+        Frame::DumpComplete if *state == State::Offering => {
             *state = State::Idle;
             None
         }
-        (Frame::Loop { receipt, data }, State::Idle) => {
+        Frame::Loop { receipt, data } if *state == State::Idle => {
             reply.send(&Frame::Looped { receipt, data })
         }
         _ => None,

@@ -4,6 +4,11 @@
 //! below and, for the header, in layout.c; the rest is left to the eye and the
 //! comparison. A slice goes over as a pointer and a length.
 
+mod ends;
+mod looping;
+pub use ends::*;
+pub use looping::*;
+
 use std::mem::offset_of;
 use std::ptr;
 use std::sync::atomic::{AtomicBool, Ordering};

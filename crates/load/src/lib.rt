@@ -220,7 +220,7 @@ fn ends(session: Session, verdict: u8, position: u64, repeats: u32) -> Turn
     }
 }
 
-// Code 8.
+// Code 8: a machine asks for a program.
 fn request(session: Session, program: u8) -> Turn
     requires { ⌜ session .sent ≤ 256 * addresses ⌝ }
     ensures { λ t. ⌜ does t ≡ onRequest session program ⌝ }
@@ -234,7 +234,7 @@ fn request(session: Session, program: u8) -> Turn
     goes_out(session, 0, 0)
 }
 
-// Code 10.
+// Code 10: a machine answers a segment.
 fn answer(many: u64, session: Session, number: u8, error: u8) -> Turn
     requires { ⌜ Going many session ⌝ }
     ensures { λ t. ⌜ does t ≡ onAnswer many session number error ⌝ }

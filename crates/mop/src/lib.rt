@@ -10,6 +10,7 @@ ghost use Rattle.mop.specs.Image.{image, segment};
 ghost use Rattle.machine.specs.Machine.{Left as MachineLeft, machineFrame, machineTimer, requesting, offering};
 ghost use Rattle.load.specs.Load.{Left as LoadLeft, fresh as freshLoad, loadFrame, loadTimer};
 ghost use Rattle.dump.specs.Dump.{Left as DumpLeft, fresh as freshDump, dumpFrame, dumpTimer};
+ghost use Rattle.looptest.specs.Loop.{Left as LoopLeft, loopStart, loopFrame, loopTimer};
 use fields::Fields;
 use image::Checked;
 use image::Found;
@@ -323,4 +324,42 @@ pub extern "C" fn mop_dump_timer(
     ensures { λ r. ⌜ DumpLeft (dumpTimer settings session (now (buffer .entry)) (now (reply .entry))) r (now (buffer .entry)) (now (reply .exit)) ⌝ }
 {
     dump::timer(settings, session, buffer, reply)
+}
+
+// The host's loop test: mop_loop of the header.
+
+#[no_mangle]
+pub extern "C" fn mop_loop_start(
+    settings: looptest::Settings,
+    bytes: &[u8],
+    reply: &mut [u8],
+) -> looptest::Stepped
+    ensures { λ r. ⌜ LoopLeft (loopStart settings (now (bytes .entry)) (now (reply .entry))) r (now (reply .exit)) ⌝ }
+{
+    looptest::start(settings, bytes, reply)
+}
+
+#[no_mangle]
+pub extern "C" fn mop_loop_frame(
+    settings: looptest::Settings,
+    session: looptest::Session,
+    bytes: &[u8],
+    frame: &[u8],
+    reply: &[u8],
+) -> looptest::Stepped
+    ensures { λ r. ⌜ LoopLeft (loopFrame settings session (now (bytes .entry)) (now (frame .entry)) (now (reply .entry))) r (now (reply .entry)) ⌝ }
+{
+    looptest::frame(settings, session, bytes, frame, reply)
+}
+
+#[no_mangle]
+pub extern "C" fn mop_loop_timer(
+    settings: looptest::Settings,
+    session: looptest::Session,
+    bytes: &[u8],
+    reply: &mut [u8],
+) -> looptest::Stepped
+    ensures { λ r. ⌜ LoopLeft (loopTimer settings session (now (bytes .entry)) (now (reply .entry))) r (now (reply .exit)) ⌝ }
+{
+    looptest::timer(settings, session, bytes, reply)
 }

@@ -8,7 +8,7 @@ use Rattle.message.specs.Read.{refused, message, read}
 use Rattle.fields.specs.declared.Fields.{Fields}
 use Rattle.fields.specs.Stated.{stated, Fielded}
 use Rattle.image.specs.Image.{regions, many}
-use Rattle.load.specs.Load.{react, running, gives, onReading}
+use Rattle.load.specs.Load.{react, running, onReading}
 use Rattle.load.specs.Laws.{react-inside}
 use Rattle.load.proofs.Calls.{call-refused, call-accepted, goes, ready, given}
 use Rattle.load.proofs.frame.Statement.{statement}

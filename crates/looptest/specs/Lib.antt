@@ -1,0 +1,3 @@
+pub mod Loop
+pub mod Inner
+pub mod Laws

@@ -1,0 +1,395 @@
+//! Compares the steps of the host's load.
+
+use super::{Case, End, Event, ROOM, first, frames, room_refusal};
+use crate::Compare;
+use crate::images::{self, Good, Region};
+use crate::tally::Hex;
+use mop_plain::image;
+use mop_plain::load::{self, Progress, Session};
+use mop_plain::step::Sent;
+use mop_proved::{LoadSettings, Step};
+
+const FILE_MOST: usize = 16_777_216;
+
+#[derive(Clone, Copy, Debug)]
+pub struct Load<'a> {
+    pub settings: LoadSettings,
+    pub file: Hex<'a>,
+}
+
+impl End for Load<'_> {
+    type Record = mop_proved::Load;
+    const NAME: &'static str = "load";
+    const STEPS: &'static str = "load steps";
+
+    fn plain(
+        &self,
+        record: Self::Record,
+        event: Event,
+        _: &mut [u8],
+        reply: &mut [u8],
+    ) -> Result<(Self::Record, Sent), u8> {
+        if matches!(event, Event::Start) {
+            return Ok((numbers(Session::Waiting), None));
+        }
+        let settings = load::Settings {
+            segment_size: self.settings.segment_size,
+            repeats: self.settings.repeats,
+        };
+        let mut session = Session::from_numbers(
+            record.waiting,
+            record.verdict,
+            record.position,
+            record.repeats,
+            record.sent,
+        )?;
+        let Hex(file) = self.file;
+        let sent = match event {
+            Event::Frame(Hex(bytes)) => load::frame(settings, &mut session, file, bytes, reply)?,
+            _ => load::timer(settings, &mut session, file, reply)?,
+        };
+        Ok((numbers(session), sent))
+    }
+
+    fn proved(
+        &self,
+        record: Self::Record,
+        event: Event,
+        _: &mut [u8],
+        reply: &mut [u8],
+    ) -> Step<Self::Record> {
+        let Hex(file) = self.file;
+        match event {
+            Event::Start => Step {
+                record: mop_proved::load_start(),
+                ..Default::default()
+            },
+            Event::Frame(Hex(bytes)) => {
+                mop_proved::load_frame(self.settings, record, file, bytes, reply)
+            }
+            Event::Timer => mop_proved::load_timer(self.settings, record, file, reply),
+        }
+    }
+
+    fn begun(&self) -> Self::Record {
+        mop_proved::load_start()
+    }
+
+    fn verdict(record: &Self::Record) -> u8 {
+        record.verdict
+    }
+}
+
+fn numbers(session: Session) -> mop_proved::Load {
+    match session {
+        Session::Waiting => mop_proved::Load {
+            waiting: 1,
+            ..Default::default()
+        },
+        Session::Begun(Progress {
+            verdict,
+            position,
+            repeats,
+            sent,
+        }) => mop_proved::Load {
+            position,
+            sent,
+            repeats,
+            waiting: 0,
+            verdict: verdict as u8,
+        },
+    }
+}
+
+/// The rehearsal's example: three bytes at 2, in two segments.
+pub fn example() -> Vec<u8> {
+    let region = Region {
+        address: 2,
+        offset: 0,
+        length: 3,
+    };
+    images::build(&[10, 11, 12], &[region], 2)
+}
+
+pub const EXAMPLE_SETTINGS: LoadSettings = LoadSettings {
+    segment_size: 2,
+    repeats: 1,
+};
+
+impl Compare {
+    pub fn load_steps(&mut self) {
+        self.load_set_cases();
+        self.load_rooms();
+        self.load_answers();
+        for _ in 0..1500 {
+            let count = self.random.pick(&[1, 1, 2, 3, 64]);
+            let file = Good::new(&mut self.random, count).file();
+            for _ in 0..40 {
+                let file = self.perhaps_spoilt_image(&file);
+                self.any_load_step("any record, image and frame", &file);
+            }
+        }
+        let file = images::shared(&self.random.bytes(FILE_MOST - 16 - 64 * 12), 64, 5);
+        for _ in 0..3000 {
+            self.any_load_step("as many segments as can be", &file);
+        }
+    }
+
+    /// The steps of the rehearsal's example, and what paper 01 says outright.
+    fn load_set_cases(&mut self) {
+        let file = example();
+        let end = Load {
+            settings: EXAMPLE_SETTINGS,
+            file: Hex(&file),
+        };
+        let waiting = numbers(Session::Waiting);
+        let with = |verdict, position, repeats, sent| mop_proved::Load {
+            position,
+            sent,
+            repeats,
+            waiting: 0,
+            verdict,
+        };
+        let frame = |frame| Event::Frame(Hex(frame));
+        let timer = Event::Timer;
+        let request = frame(&[8, 0, 1, 2, 255, 0]);
+        let first: Option<&[u8]> = Some(&[2, 0, 2, 0, 0, 0, 10, 11]);
+        let last: Option<&[u8]> = Some(&[0, 1, 4, 0, 0, 0, 12, 2, 0, 0, 0]);
+        #[rustfmt::skip]
+        let cases = [
+            (waiting, request, with(0, 0, 0, 1), first),
+            (waiting, frame(&[8, 0, 1, 1, 255, 0]), waiting, None),
+            (waiting, frame(&[10, 1, 0]), waiting, None),
+            (waiting, timer, waiting, None),
+            (with(0, 0, 1, 2), request, with(0, 0, 1, 2), None),
+            (with(0, 0, 1, 2), frame(&[10, 1, 0]), with(0, 1, 0, 3), last),
+            (with(0, 0, 1, 2), frame(&[10, 1, 9]), with(2, 0, 1, 2), None),
+            (with(0, 0, 1, 2), frame(&[10, 2, 9]), with(0, 0, 1, 2), None),
+            // A doubled reply sends nothing.
+            (with(0, 1, 0, 3), frame(&[10, 1, 0]), with(0, 1, 0, 3), None),
+            (with(0, 1, 1, 3), frame(&[10, 2, 0]), with(1, 2, 0, 3), None),
+            (with(0, 0, 0, 1), timer, with(0, 0, 1, 2), first),
+            (with(0, 0, 1, 2), timer, with(3, 0, 1, 2), None),
+            // The last segment's silence is not a failure.
+            (with(0, 1, 1, 3), timer, with(4, 1, 1, 3), None),
+            (with(3, 0, 1, 2), frame(&[10, 1, 0]), with(3, 0, 1, 2), None),
+            (with(4, 1, 0, 2), timer, with(4, 1, 0, 2), None),
+        ];
+        for (before, event, after, frame) in cases {
+            self.set_case(&end, before, event, &[], (after, frame, &[]));
+        }
+    }
+
+    fn good_load<'a>(&mut self, file: &'a [u8]) -> Load<'a> {
+        let any = self.random.range(1, 1490) as u32;
+        let small = self.random.range(1, 40) as u32;
+        let segment_size = self.random.pick(&[1, 2, small, 1490, any]);
+        let any = self.random.range(0, 255) as u32;
+        Load {
+            settings: LoadSettings {
+                segment_size,
+                repeats: self.random.pick(&[0, 0, 1, 2, 254, 255, any]),
+            },
+            file: Hex(file),
+        }
+    }
+
+    /// A record that is not bad: waiting, running or with a verdict, also such
+    /// as no run has.
+    fn good_load_record(&mut self, settings: LoadSettings, segments: u64) -> mop_proved::Load {
+        if self.random.once_in(8) {
+            return numbers(Session::Waiting);
+        }
+        let verdict = self.random.pick(&[0, 0, 0, 0, 0, 0, 0, 1, 2, 3, 4]);
+        let last = segments - 1;
+        let any = self.random.below(segments);
+        let round = any / 256 * 256 + self.random.pick(&[0, 254, 255]);
+        let position = self.random.pick(&[0, last, any, round.min(last)]);
+        let most = segments * (u64::from(settings.repeats) + 1);
+        let any = self.random.below(most + 1);
+        mop_proved::Load {
+            position: if verdict == 1 { segments } else { position },
+            sent: self.random.pick(&[0, 1, most - 1, most, any]),
+            repeats: self.any_repeats(settings.repeats),
+            waiting: 0,
+            verdict,
+        }
+    }
+
+    /// Repeats used, of those allowed.
+    pub fn any_repeats(&mut self, allowed: u32) -> u32 {
+        let any = self.random.below(u64::from(allowed) + 1) as u32;
+        self.random
+            .pick(&[0, allowed, allowed.saturating_sub(1), any])
+    }
+
+    fn any_load_step(&mut self, kind: &'static str, file: &[u8]) {
+        let mut end = self.good_load(file);
+        let image = image::check(file, end.settings.segment_size);
+        let segments = image.as_ref().map_or(9, image::Image::segments);
+        let mut record = self.good_load_record(end.settings, segments);
+        let frame = self.frame_for_load(record.position);
+        let event = match self.random.below(4) {
+            0 => Event::Timer,
+            _ => Event::Frame(Hex(&frame)),
+        };
+        let mut late = 0;
+        if self.faulty() {
+            record = self.late_load_fault(end.settings, segments);
+            late = 10;
+        }
+        let mut early = 0;
+        if self.faulty() {
+            self.early_load_fault(&mut end.settings, &mut record);
+            early = 10;
+        }
+        let room = self.any_reply_room();
+        let case = Case {
+            kind,
+            end: &end,
+            record,
+            event,
+            room,
+            wanted: first(&[
+                early,
+                room_refusal(room),
+                image.err().unwrap_or(0),
+                late,
+                event.refusal(),
+            ]),
+        };
+        self.step(case, &mut []);
+    }
+
+    /// The image file, or now and then one with a byte of directory or trailer
+    /// changed, or cut.
+    fn perhaps_spoilt_image(&mut self, file: &[u8]) -> Vec<u8> {
+        let mut file = file.to_vec();
+        let tail = file.len().min(40);
+        match self.random.below(16) {
+            0 | 1 => {
+                let at = file.len() - self.random.range(1, tail);
+                file[at] = self.random.other_than(file[at]);
+            }
+            2 => file.truncate(self.random.range(0, tail)),
+            _ => {}
+        }
+        file
+    }
+
+    /// Breaks a rule that is judged before the reply buffer and the image.
+    fn early_load_fault(&mut self, settings: &mut LoadSettings, record: &mut mop_proved::Load) {
+        let high = self.random.pick(&[1, 255, 1 << 16]);
+        match self.random.below(9) {
+            0 => settings.segment_size = self.random.pick(&[0, 1491, 65_537, u32::MAX]),
+            1 => settings.repeats = self.random.pick(&[256, 257, 65_536, u32::MAX]),
+            2 => record.repeats = settings.repeats + high,
+            3 => record.repeats = u32::MAX,
+            4 => (record.waiting, record.verdict) = (0, self.number_from(5)),
+            5 => record.waiting = self.number_from(2),
+            6 => (record.waiting, record.position) = (1, self.random.pick(&[1, 1 << 32])),
+            7 => (record.waiting, record.sent) = (1, self.random.pick(&[1, 1 << 32])),
+            _ => {
+                *record = numbers(Session::Waiting);
+                match self.random.once_in(2) {
+                    true => record.verdict = self.number_from(1),
+                    false => record.repeats = self.random.pick(&[1, 256]),
+                }
+            }
+        }
+    }
+
+    /// A record that breaks only a rule that needs the number of segments.
+    fn late_load_fault(&mut self, settings: LoadSettings, segments: u64) -> mop_proved::Load {
+        let mut record = self.good_load_record(settings, segments);
+        record.waiting = 0;
+        let most = segments * (u64::from(settings.repeats) + 1);
+        let open = self.random.pick(&[0, 2, 3, 4]);
+        match self.random.below(4) {
+            0 => {
+                let high = [segments + 1, segments + 256, segments + (1 << 32), u64::MAX];
+                record.position = self.random.pick(&high);
+            }
+            1 => {
+                let high = [most + 1, most + 256, most + (1 << 32), u64::MAX];
+                record.sent = self.random.pick(&high);
+            }
+            2 => (record.verdict, record.position) = (1, self.random.below(segments)),
+            _ => (record.verdict, record.position) = (open, segments),
+        }
+        record
+    }
+
+    /// A frame that may matter to a load at this position.
+    fn frame_for_load(&mut self, position: u64) -> Vec<u8> {
+        let wanted = (position + 1) as u8;
+        let any = self.random.u8();
+        let frame = match self.random.below(8) {
+            0 | 1 => self.any_request(),
+            2..=6 => {
+                let near = [wanted, wanted.wrapping_sub(1), wanted.wrapping_add(1), any];
+                let number = self.random.pick(&[[wanted; 4], near].concat());
+                frames::request_load(number, self.random.pick(&[0, 0, 0, 1, 255, any]))
+            }
+            _ => self.any_good_frame(),
+        };
+        self.perhaps_spoilt(frame)
+    }
+
+    fn load_rooms(&mut self) {
+        let file = Good::new(&mut self.random, 3).file();
+        let end = self.good_load(&file);
+        let image = image::check(&file, end.settings.segment_size);
+        let segments = image.map_or(0, |image| image.segments());
+        let running = mop_proved::Load {
+            sent: 1,
+            ..Default::default()
+        };
+        let finished = mop_proved::Load {
+            position: segments,
+            verdict: 1,
+            ..running
+        };
+        let waiting = numbers(Session::Waiting);
+        let request = [8, 0, 1, 2, 255, 0];
+        for record in [waiting, running, finished] {
+            for frame in [&request[..], &[10, 1, 0], &[3]] {
+                self.rooms(&end, record, Event::Frame(Hex(frame)), &[]);
+            }
+            self.rooms(&end, record, Event::Timer, &[]);
+        }
+    }
+
+    /// Every number and many errors, at positions about the numbers' wrap.
+    fn load_answers(&mut self) {
+        let file = images::shared(&self.random.bytes(600), 1, 5);
+        let end = Load {
+            settings: LoadSettings {
+                segment_size: 1,
+                repeats: 3,
+            },
+            file: Hex(&file),
+        };
+        for position in [0, 1, 254, 255, 256, 257, 510, 511, 512, 598, 599] {
+            for number in 0..=255 {
+                for error in [0, 1, 128] {
+                    let frame = frames::request_load(number, error);
+                    let case = Case {
+                        kind: "every number answered",
+                        end: &end,
+                        record: mop_proved::Load {
+                            position,
+                            sent: position + 1,
+                            repeats: 2,
+                            ..Default::default()
+                        },
+                        event: Event::Frame(Hex(&frame)),
+                        room: ROOM,
+                        wanted: 0,
+                    };
+                    self.step(case, &mut []);
+                }
+            }
+        }
+    }
+}

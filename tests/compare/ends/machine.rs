@@ -1,0 +1,435 @@
+//! Compares the machine's steps.
+
+use super::{Case, End, Event, ROOM, first, frames, room_refusal};
+use crate::Compare;
+use crate::make;
+use crate::tally::Hex;
+use mop_plain::machine::{self, State};
+use mop_plain::step::Sent;
+use mop_proved::{MachineSettings, Step};
+
+const MEMORY_MOST: usize = 16_777_216;
+
+pub const IDLE: u8 = 0;
+pub const OFFERING: u8 = 1;
+pub const REQUESTING: u8 = 2;
+pub const LOADING: u8 = 3;
+pub const STARTED: u8 = 4;
+
+/// What a machine starts for.
+#[derive(Clone, Copy, Debug)]
+pub enum Purpose {
+    Load,
+    Dump,
+}
+
+#[derive(Clone, Copy, Debug)]
+pub struct Machine {
+    pub settings: MachineSettings,
+    pub purpose: Purpose,
+}
+
+impl End for Machine {
+    type Record = mop_proved::Machine;
+    const NAME: &'static str = "machine";
+    const STEPS: &'static str = "machine steps";
+
+    fn plain(
+        &self,
+        record: Self::Record,
+        event: Event,
+        memory: &mut [u8],
+        reply: &mut [u8],
+    ) -> Result<(Self::Record, Sent), u8> {
+        let settings = machine::Settings {
+            dump_most: self.settings.dump_most,
+            device: self.settings.device,
+            processor: self.settings.processor,
+        };
+        let mut state =
+            State::from_numbers(record.state, record.expected, record.error, record.transfer)?;
+        let sent = match (event, self.purpose) {
+            (Event::Start, purpose) => {
+                let start = match purpose {
+                    Purpose::Load => machine::start_load,
+                    Purpose::Dump => machine::start_dump,
+                };
+                let (fresh, sent) = start(settings, memory, reply)?;
+                state = fresh;
+                sent
+            }
+            (Event::Frame(Hex(bytes)), _) => {
+                machine::frame(settings, &mut state, bytes, memory, reply)?
+            }
+            (Event::Timer, _) => machine::timer(settings, state, memory, reply)?,
+        };
+        Ok((numbers(state), sent))
+    }
+
+    fn proved(
+        &self,
+        record: Self::Record,
+        event: Event,
+        memory: &mut [u8],
+        reply: &mut [u8],
+    ) -> Step<Self::Record> {
+        let settings = self.settings;
+        let step = match (event, self.purpose) {
+            (Event::Start, Purpose::Load) => {
+                mop_proved::machine_start_load(settings, memory, reply)
+            }
+            (Event::Start, Purpose::Dump) => {
+                mop_proved::machine_start_dump(settings, memory, reply)
+            }
+            (Event::Frame(Hex(bytes)), _) => {
+                mop_proved::machine_frame(settings, record, bytes, memory, reply)
+            }
+            (Event::Timer, _) => mop_proved::machine_timer(settings, record, memory, reply),
+        };
+        match step.answer.refusal {
+            0 => Step {
+                record: own(step.record),
+                ..step
+            },
+            _ => step,
+        }
+    }
+
+    fn begun(&self) -> Self::Record {
+        match self.purpose {
+            Purpose::Load => state(REQUESTING),
+            Purpose::Dump => state(OFFERING),
+        }
+    }
+
+    fn verdict(record: &Self::Record) -> u8 {
+        record.state
+    }
+}
+
+/// The record without the numbers that are not its state's own: they mean
+/// nothing, and the plain state has no place for them.
+fn own(record: mop_proved::Machine) -> mop_proved::Machine {
+    match record.state {
+        LOADING => loading(record.expected, record.error),
+        STARTED => started(record.transfer),
+        other => state(other),
+    }
+}
+
+/// A state's number and what it keeps; all else is 0.
+fn numbers(machine: State) -> mop_proved::Machine {
+    match machine {
+        State::Idle => state(IDLE),
+        State::Offering => state(OFFERING),
+        State::Requesting => state(REQUESTING),
+        State::Loading { expected, error } => loading(expected, error),
+        State::Started { transfer } => started(transfer),
+    }
+}
+
+/// A state that keeps nothing.
+pub fn state(state: u8) -> mop_proved::Machine {
+    mop_proved::Machine {
+        state,
+        ..Default::default()
+    }
+}
+
+fn loading(expected: u8, error: u8) -> mop_proved::Machine {
+    mop_proved::Machine {
+        expected,
+        error,
+        ..state(LOADING)
+    }
+}
+
+fn started(transfer: u32) -> mop_proved::Machine {
+    mop_proved::Machine {
+        transfer,
+        ..state(STARTED)
+    }
+}
+
+impl Compare {
+    pub fn machine_steps(&mut self) {
+        self.machine_set_cases();
+        self.machine_numbers();
+        self.machine_rooms();
+        self.machine_states();
+        for _ in 0..60_000 {
+            self.any_machine_step();
+        }
+        self.large_memories();
+    }
+
+    fn good_machine(&mut self) -> Machine {
+        let any = self.random.range(1, 1495) as u32;
+        Machine {
+            settings: MachineSettings {
+                dump_most: self.random.pick(&[1, 2, 4, 20, 1494, 1495, any]),
+                device: self.random.u8(),
+                processor: self.random.u8(),
+            },
+            purpose: self.random.pick(&[Purpose::Load, Purpose::Dump]),
+        }
+    }
+
+    /// Any state, with what it keeps.
+    fn any_state(&mut self) -> mop_proved::Machine {
+        let any = self.random.u8();
+        let expected = self.random.pick(&[0, 1, 2, 254, 255, any]);
+        let error = self.random.pick(&[0, 0, 1, 1, any]);
+        match self.random.range(0, 6) as u8 {
+            STARTED => started(self.random.u32()),
+            number @ IDLE..=REQUESTING => state(number),
+            _ => loading(expected, error),
+        }
+    }
+
+    /// Paper 01's K7, K8, K9 and K12, and what its text says outright.
+    fn machine_set_cases(&mut self) {
+        let end = Machine {
+            settings: MachineSettings {
+                dump_most: 4,
+                ..Default::default()
+            },
+            purpose: Purpose::Load,
+        };
+        let (idle, offering, requesting) = (state(IDLE), state(OFFERING), state(REQUESTING));
+        let load = |number, address| frames::load(number, address, &[7, 8], None);
+        let last = |number, address| frames::load(number, address, &[7, 8], Some(5));
+        let dump = frames::request_dump;
+        let old = [1, 2, 3, 4, 5, 6, 8, 9];
+        let high = [1, 2, 3, 4, 5, 6, 7, 8];
+        let low = [7, 8, 3, 4, 5, 6, 8, 9];
+        let none: &[u8] = &[];
+        #[rustfmt::skip]
+        let cases = [
+            // K7
+            (requesting, load(0, 6), loading(1, 0), &[10, 1, 0][..], high),
+            (requesting, load(0, 7), loading(1, 1), &[10, 1, 1], old),
+            // K8
+            (loading(1, 0), load(0, 0), loading(1, 0), &[10, 1, 0], low),
+            // K9
+            (loading(255, 0), load(255, 0), loading(0, 0), &[10, 0, 0], low),
+            // The machine starts only if the data fits.
+            (loading(9, 0), last(9, 0), started(5), &[10, 10, 0], low),
+            (loading(9, 0), last(9, 7), loading(10, 1), &[10, 10, 1], old),
+            // The number before, again, with its error; other numbers, nothing.
+            (loading(9, 1), last(8, 0), loading(9, 1), &[10, 9, 1], old),
+            (loading(0, 1), load(255, 0), loading(0, 1), &[10, 0, 1], old),
+            (loading(9, 1), load(7, 0), loading(9, 1), none, old),
+            (requesting, load(1, 0), requesting, none, old),
+            (offering, load(0, 0), offering, none, old),
+            (started(3), load(0, 0), started(3), none, old),
+            // K12, and dumps of nothing, at the last address, unoffered.
+            (idle, dump(6, 4), idle, &[14, 6, 0, 0, 0, 8, 9, 0, 0], old),
+            (idle, dump(6, 0), idle, &[14, 6, 0, 0, 0], old),
+            (offering, dump(u32::MAX, 9), offering, &[14, 255, 255, 255, 255, 0, 0, 0, 0], old),
+            (requesting, dump(0, 4), requesting, none, old),
+            (offering, vec![1], idle, none, old),
+            (idle, vec![24, 1, 2, 3], idle, &[26, 1, 2, 3], old),
+            (offering, vec![24, 1, 2, 3], offering, none, old),
+        ];
+        for (before, frame, after, reply, memory) in cases {
+            let event = Event::Frame(Hex(&frame));
+            let reply = Some(reply).filter(|reply| !reply.is_empty());
+            self.set_case(&end, before, event, &old, (after, reply, &memory));
+        }
+    }
+
+    /// Every number against every expected number.
+    fn machine_numbers(&mut self) {
+        let end = self.good_machine();
+        let mut memory = self.random.bytes(16);
+        for expected in 0..=255 {
+            for number in 0..=255 {
+                let address = self.random.range(0, 16) as u32;
+                let data = self.random.bytes(2);
+                let transfer = self.random.pick(&[None, None, Some(77)]);
+                let frame = frames::load(number, address, &data, transfer);
+                let case = Case {
+                    kind: "every number against every expected",
+                    end: &end,
+                    record: loading(expected, self.random.pick(&[0, 1])),
+                    event: Event::Frame(Hex(&frame)),
+                    room: ROOM,
+                    wanted: 0,
+                };
+                self.step(case, &mut memory);
+            }
+        }
+    }
+
+    fn machine_rooms(&mut self) {
+        let memory = self.random.bytes(30);
+        for number in IDLE..=STARTED {
+            let end = self.good_machine();
+            let load = frames::load(0, 3, &[1, 2, 3], None);
+            let dump = frames::request_dump(2, 20);
+            let offer = make::frame(&mut self.random, 12);
+            for frame in [load, dump, offer, vec![24, 1, 2]] {
+                self.rooms(&end, state(number), Event::Frame(Hex(&frame)), &memory);
+            }
+            self.rooms(&end, state(number), Event::Timer, &memory);
+            self.rooms(&end, Default::default(), Event::Start, &memory);
+        }
+    }
+
+    /// Every state number; those above 4 cannot be.
+    fn machine_states(&mut self) {
+        for number in 0..=255 {
+            let end = self.good_machine();
+            let frame = frames::load(0, 0, &[1], None);
+            for event in [Event::Frame(Hex(&frame)), Event::Timer] {
+                let case = Case {
+                    kind: "every state number",
+                    end: &end,
+                    record: state(number),
+                    event,
+                    room: ROOM,
+                    wanted: if number > STARTED { 10 } else { 0 },
+                };
+                self.step(case, &mut [0; 4]);
+            }
+        }
+    }
+
+    fn any_machine_step(&mut self) {
+        let mut memory = self.any_memory();
+        let mut end = self.good_machine();
+        let mut record = self.any_state();
+        let frame = self.frame_for_machine(record.expected, end.settings.dump_most, memory.len());
+        let event = match self.random.below(10) {
+            0 => Event::Start,
+            1 | 2 => Event::Timer,
+            _ => Event::Frame(Hex(&frame)),
+        };
+        match event {
+            Event::Start => record = Default::default(),
+            // Numbers that are not the state's own.
+            _ if self.random.once_in(16) => (record.transfer, record.expected) = (1, 2),
+            _ => {}
+        }
+        let mut early = 0;
+        if self.faulty() {
+            early = 10;
+            if matches!(event, Event::Start) || self.random.once_in(2) {
+                let bad = [0, 1496, 65_536, 65_537, 1 << 31, u32::MAX];
+                end.settings.dump_most = self.random.pick(&bad);
+            } else {
+                record.state = self.number_from(5);
+            }
+        }
+        let room = self.any_reply_room();
+        let case = Case {
+            kind: "any state and frame",
+            end: &end,
+            record,
+            event,
+            room,
+            wanted: first(&[early, room_refusal(room), event.refusal()]),
+        };
+        self.step(case, &mut memory);
+    }
+
+    fn any_memory(&mut self) -> Vec<u8> {
+        let length = match self.random.below(64) {
+            0..=6 => 0,
+            7..=12 => self.random.range(1480, 1510),
+            13..=18 => self.random.range(1, 4000),
+            19 => self.random.range(65_530, 70_000),
+            _ => self.random.range(1, 40),
+        };
+        self.random.bytes(length)
+    }
+
+    /// A frame that may matter to a machine that expects this number.
+    fn frame_for_machine(&mut self, expected: u8, dump_most: u32, memory: usize) -> Vec<u8> {
+        let frame = match self.random.below(10) {
+            0..=4 => self.any_load(expected, memory),
+            5 | 6 => {
+                let address = self.address_about(memory, dump_most as usize);
+                let near = dump_most as u16;
+                let any = self.random.u16();
+                let count = [0, 1, near - 1, near, near + 1, 256, u16::MAX, any];
+                frames::request_dump(address, self.random.pick(&count))
+            }
+            7 => make::frame(&mut self.random, 24),
+            8 => vec![1],
+            _ => self.any_good_frame(),
+        };
+        self.perhaps_spoilt(frame)
+    }
+
+    fn any_load(&mut self, expected: u8, memory: usize) -> Vec<u8> {
+        let any = self.random.u8();
+        let numbers = [0, expected, expected, expected.wrapping_sub(1), any];
+        let number = self.random.pick(&numbers);
+        let length = match self.random.below(12) {
+            0 => 0,
+            1 => 1490,
+            2 => self.random.range(0, 1490),
+            _ => self.random.range(0, 20),
+        };
+        let address = self.address_about(memory, length);
+        let any = self.random.u32();
+        let transfer = self.random.pick(&[None, Some(any)]);
+        let data = self.random.bytes(length);
+        frames::load(number, address, &data, transfer)
+    }
+
+    /// An address from which `length` bytes just fit into memory, just do not,
+    /// or would if sums had 32 bits.
+    fn address_about(&mut self, memory: usize, length: usize) -> u32 {
+        let (memory, length) = (memory as u32, length as u32);
+        let any = self.random.u32();
+        let inside = any % (memory + 1);
+        self.random.pick(&[
+            0,
+            inside,
+            inside,
+            memory.saturating_sub(length),
+            memory.saturating_sub(length),
+            memory.saturating_sub(length) + 1,
+            memory,
+            memory + 1,
+            length.wrapping_neg(),
+            u32::MAX,
+            any,
+        ])
+    }
+
+    /// Memories about the greatest length, loaded and dumped at their end.
+    fn large_memories(&mut self) {
+        for length in [MEMORY_MOST - 1, MEMORY_MOST, MEMORY_MOST + 1] {
+            let mut memory = vec![3; length];
+            let end = Machine {
+                purpose: Purpose::Dump,
+                ..self.good_machine()
+            };
+            let top = length as u32;
+            let fits = frames::load(0, top - 2, &[1, 2], None);
+            let not = frames::load(0, top - 1, &[1, 2], None);
+            let dump = frames::request_dump(top - 3, 9);
+            for event in [
+                Event::Frame(Hex(&fits)),
+                Event::Frame(Hex(&not)),
+                Event::Frame(Hex(&dump)),
+                Event::Start,
+                Event::Timer,
+            ] {
+                let case = Case {
+                    kind: "memories about 16,777,216 bytes",
+                    end: &end,
+                    record: Default::default(),
+                    event,
+                    room: ROOM,
+                    wanted: if length > MEMORY_MOST { 10 } else { 0 },
+                };
+                self.step(case, &mut memory);
+            }
+        }
+    }
+}

@@ -1,0 +1,365 @@
+//! Compares the two ends: single steps on all sorts of records, and whole runs
+//! over a link that loses and doubles frames.
+
+mod beyond;
+mod dump;
+mod frames;
+mod link;
+mod load;
+mod looping;
+mod machine;
+mod runs;
+mod seen;
+
+use std::fmt::{self, Debug};
+
+use crate::Compare;
+use crate::random::Random;
+use crate::tally::Hex;
+use mop_plain::frame;
+use mop_plain::step::Sent;
+use mop_proved::{Step, Written};
+
+pub use seen::Seen;
+
+/// A step needs a reply buffer of this many bytes.
+const ROOM: usize = 1500;
+/// Bytes kept before and behind each buffer, to see that they stay.
+const MARGIN: usize = 24;
+
+/// The machine, or the host's load, dump or loop test, with all that stays the
+/// same over its calls.
+pub trait End: Debug {
+    /// In the shape of mop.h.
+    type Record: Copy + Debug + Default + PartialEq;
+    const NAME: &'static str;
+    /// Heads the counts of its cases.
+    const STEPS: &'static str;
+
+    /// The plain implementation's step. `store` is the machine's memory, the
+    /// dump's buffer, or empty.
+    fn plain(
+        &self,
+        record: Self::Record,
+        event: Event,
+        store: &mut [u8],
+        reply: &mut [u8],
+    ) -> Result<(Self::Record, Sent), u8>;
+
+    fn proved(
+        &self,
+        record: Self::Record,
+        event: Event,
+        store: &mut [u8],
+        reply: &mut [u8],
+    ) -> Step<Self::Record>;
+
+    /// The record that a start makes; a start that is refused gives it too.
+    fn begun(&self) -> Self::Record;
+
+    /// The record's verdict, or the machine's state.
+    fn verdict(record: &Self::Record) -> u8;
+}
+
+/// What happens to an end.
+#[derive(Clone, Copy, Debug)]
+pub enum Event<'a> {
+    Start,
+    Frame(Hex<'a>),
+    Timer,
+}
+
+impl Event<'_> {
+    fn name(&self) -> &'static str {
+        match self {
+            Event::Start => "start",
+            Event::Frame(_) => "frame",
+            Event::Timer => "timer",
+        }
+    }
+
+    /// The frame's own refusal, 0 for none.
+    fn refusal(&self) -> u8 {
+        match self {
+            Event::Frame(Hex(bytes)) => frame::read(bytes).err().unwrap_or(0),
+            _ => 0,
+        }
+    }
+}
+
+/// One call.
+#[derive(Debug)]
+pub struct Case<'a, E: End> {
+    kind: &'static str,
+    end: &'a E,
+    /// All 0 for a start, which is given none.
+    record: E::Record,
+    event: Event<'a>,
+    /// The reply buffer's length.
+    room: usize,
+    /// The refusal by the paper, 0 for none.
+    wanted: u8,
+}
+
+impl<E: End> Case<'_, E> {
+    /// The record that a refusal gives back.
+    fn kept(&self) -> E::Record {
+        match self.event {
+            Event::Start => self.end.begun(),
+            _ => self.record,
+        }
+    }
+}
+
+/// What a call gave.
+pub struct Outcome<R> {
+    pub record: R,
+    pub refusal: u8,
+    pub frame: Option<Vec<u8>>,
+}
+
+/// The buffers of a call, each between margins.
+#[derive(Clone, PartialEq)]
+struct Lent {
+    store: Vec<u8>,
+    reply: Vec<u8>,
+}
+
+impl Lent {
+    fn new(random: &mut Random, store: &[u8], room: usize) -> Lent {
+        let margins = random.bytes(2 * MARGIN);
+        let (before, behind) = margins.split_at(MARGIN);
+        Lent {
+            store: [before, store, behind].concat(),
+            reply: random.bytes(MARGIN + room + MARGIN),
+        }
+    }
+
+    /// The store and the reply buffer.
+    fn parts(&mut self) -> (&mut [u8], &mut [u8]) {
+        (inside(&mut self.store), inside(&mut self.reply))
+    }
+}
+
+fn inside(bytes: &mut [u8]) -> &mut [u8] {
+    let end = bytes.len() - MARGIN;
+    &mut bytes[MARGIN..end]
+}
+
+impl Compare {
+    pub fn all_ends(&mut self) {
+        self.machine_steps();
+        self.load_steps();
+        self.dump_steps();
+        self.set_run();
+        self.load_runs();
+        self.dump_runs();
+        self.all_loops();
+        self.ends_beyond_32_bits();
+    }
+
+    /// Makes one call of both implementations, and compares the answers,
+    /// records and all bytes in and around the buffers. The store is left as
+    /// the plain one left it.
+    pub fn step<E: End>(&mut self, case: Case<E>, store: &mut [u8]) -> Outcome<E::Record> {
+        let before = Lent::new(&mut self.random, store, case.room);
+        let mut plain = before.clone();
+        let mut proved = before.clone();
+        let answer = run_plain(&case, &mut plain);
+        let seen = run_proved(&case, &mut proved);
+        let expected = in_c(&case, answer);
+
+        if seen != expected {
+            self.differ_in_step("answer", &case, store, seen, expected);
+        }
+        if proved.reply != plain.reply {
+            let (seen, wanted) = (Hex(&proved.reply), Hex(&plain.reply));
+            self.differ_in_step("reply buffer", &case, store, seen, wanted);
+        }
+        if proved.store != plain.store {
+            let (seen, wanted) = (Hex(&proved.store), Hex(&plain.store));
+            self.differ_in_step("memory or dump buffer", &case, store, seen, wanted);
+        }
+        if let Err(wanted) = judge(&case, answer, &before, &plain) {
+            self.differ_in_step("plain step against the paper", &case, store, answer, wanted);
+        }
+
+        let outcome = Outcome {
+            record: expected.record,
+            refusal: expected.answer.refusal,
+            frame: sent_bytes(answer, &plain.reply),
+        };
+        self.tally.step(&case, &outcome);
+        store.copy_from_slice(inside(&mut plain.store));
+        outcome
+    }
+
+    fn differ_in_step<E: End>(
+        &mut self,
+        what: &str,
+        case: &Case<E>,
+        store: &[u8],
+        seen: impl Debug,
+        wanted: impl Debug,
+    ) {
+        let what = format_args!("{} {}, {what}", E::NAME, case.event.name());
+        self.report(what, (case, Hex(store)), seen, wanted);
+    }
+
+    /// Reports a difference, with its numbers in decimal.
+    fn report(
+        &mut self,
+        what: fmt::Arguments,
+        input: impl Debug,
+        seen: impl Debug,
+        wanted: impl Debug,
+    ) {
+        let input = format_args!("{input:?}");
+        let seen = format_args!("{seen:?}");
+        let wanted = format_args!("{wanted:?}");
+        self.tally.differ(what, input, seen, wanted);
+    }
+
+    /// A call that is to give this record, frame and store, by the paper.
+    fn set_case<E: End>(
+        &mut self,
+        end: &E,
+        record: E::Record,
+        event: Event,
+        store: &[u8],
+        wanted: (E::Record, Option<&[u8]>, &[u8]),
+    ) {
+        let case = Case {
+            kind: "set cases",
+            end,
+            record,
+            event,
+            room: ROOM,
+            wanted: 0,
+        };
+        let mut store = store.to_vec();
+        let Outcome {
+            record: after,
+            frame,
+            ..
+        } = self.step(case, &mut store);
+        let seen = (after, frame.as_deref(), &store[..]);
+        if seen != wanted {
+            let what = format_args!("plain {}, set case", E::NAME);
+            self.report(what, (end, record, event), seen, wanted);
+        }
+    }
+
+    /// A call with reply buffers of every length about the bound, and of some
+    /// others, where all else is good: 9 below 1,500 bytes.
+    fn rooms<E: End>(&mut self, end: &E, record: E::Record, event: Event, store: &[u8]) {
+        let rooms = (0..=20).chain(1480..=1520);
+        for room in rooms.chain([255, 256, 3000, 65_535, 65_536, 67_036]) {
+            let case = Case {
+                kind: "reply buffers of many lengths",
+                end,
+                record,
+                event,
+                room,
+                wanted: room_refusal(room),
+            };
+            self.step(case, &mut store.to_vec());
+        }
+    }
+
+    /// A reply buffer's length, mostly enough.
+    fn any_reply_room(&mut self) -> usize {
+        match self.random.below(16) {
+            0 => self.random.range(1490, 1499),
+            1 => self.random.pick(&[0, 1, 3, 1024, 1499]),
+            2 => self.random.range(1501, 1600),
+            _ => ROOM,
+        }
+    }
+
+    /// A byte of at least this, often the least.
+    fn number_from(&mut self, least: u8) -> u8 {
+        let any = self.random.range(least.into(), 255) as u8;
+        self.random.pick(&[least, any])
+    }
+
+    /// Whether a case is to have a fault of some sort.
+    fn faulty(&mut self) -> bool {
+        self.random.once_in(8)
+    }
+}
+
+fn run_plain<E: End>(case: &Case<E>, lent: &mut Lent) -> Result<(E::Record, Sent), u8> {
+    let (store, reply) = lent.parts();
+    case.end.plain(case.record, case.event, store, reply)
+}
+
+fn run_proved<E: End>(case: &Case<E>, lent: &mut Lent) -> Step<E::Record> {
+    let (store, reply) = lent.parts();
+    case.end.proved(case.record, case.event, store, reply)
+}
+
+/// A plain answer in the shape of mop.h; a refusal gives the record back, and
+/// that of a start has all numbers 0.
+fn in_c<E: End>(case: &Case<E>, answer: Result<(E::Record, Sent), u8>) -> Step<E::Record> {
+    match answer {
+        Ok((record, sent)) => Step {
+            record,
+            answer: Written {
+                length: sent.unwrap_or(0),
+                refusal: 0,
+            },
+        },
+        Err(refusal) => Step {
+            record: case.kept(),
+            answer: Written { length: 0, refusal },
+        },
+    }
+}
+
+/// Checks a plain step by itself: the wanted refusal, which changes nothing; a
+/// readable frame; all bytes outside the frame and the store in their place.
+fn judge<E: End>(
+    case: &Case<E>,
+    answer: Result<(E::Record, Sent), u8>,
+    before: &Lent,
+    after: &Lent,
+) -> Result<(), String> {
+    let refusal = answer.err().unwrap_or(0);
+    if refusal != case.wanted {
+        return Err(format!("refusal {}", case.wanted));
+    }
+    if refusal != 0 && before != after {
+        return Err("a refusal changes nothing".to_string());
+    }
+    let frame = sent_bytes(answer, &after.reply).unwrap_or_default();
+    if !frame.is_empty() && frame::read(&frame).is_err() {
+        return Err("a readable frame".to_string());
+    }
+    let end = MARGIN + frame.len();
+    let outside = |lent: &Lent| {
+        let store_end = lent.store.len() - MARGIN;
+        let margins = [&lent.store[..MARGIN], &lent.store[store_end..]];
+        [&margins.concat(), &lent.reply[..MARGIN], &lent.reply[end..]].concat()
+    };
+    if outside(before) != outside(after) {
+        return Err("all bytes outside frame and store stay".to_string());
+    }
+    Ok(())
+}
+
+/// The frame that a call left in the guarded reply buffer.
+fn sent_bytes<R>(answer: Result<(R, Sent), u8>, reply: &[u8]) -> Option<Vec<u8>> {
+    let length = answer.ok()?.1?;
+    Some(reply[MARGIN..MARGIN + length].to_vec())
+}
+
+fn room_refusal(room: usize) -> u8 {
+    if room < ROOM { 9 } else { 0 }
+}
+
+/// The first refusal in the paper's order, 0 for none.
+fn first(refusals: &[u8]) -> u8 {
+    let found = refusals.iter().find(|&&refusal| refusal != 0);
+    found.copied().unwrap_or(0)
+}

@@ -1,0 +1,363 @@
+//! Whole runs of both ends over a link, and what paper 01 claims of each.
+
+use super::dump::{Dump, sent_most};
+use super::link::{Link, Mix, Side};
+use super::load::{EXAMPLE_SETTINGS, Load, example};
+use super::machine::{Machine, Purpose, STARTED};
+use super::{End, ROOM};
+use crate::Compare;
+use crate::images::{Region, build};
+use crate::tally::Hex;
+use mop_proved::{DumpSettings, LoadSettings, MachineSettings};
+
+/// Events after a verdict, to see that it stays.
+const AFTER_VERDICT: usize = 20;
+/// The claim is checked after one event in so many, and at the end.
+const CLAIM_EVERY: u64 = 16;
+/// A call on the side is made after one event in so many.
+const PROBE_EVERY: u64 = 4;
+
+const CLEAN: Mix = Mix {
+    weights: [1, 0, 0, 1, 0, 0, 0, 0],
+    short: 0,
+};
+const DOUBLED: Mix = Mix {
+    weights: [6, 4, 0, 6, 4, 0, 0, 0],
+    short: 40,
+};
+const LOSSY: Mix = Mix {
+    weights: [12, 3, 2, 12, 3, 2, 3, 1],
+    short: 20,
+};
+const SILENT: Mix = Mix {
+    weights: [4, 0, 6, 4, 0, 6, 6, 3],
+    short: 20,
+};
+
+/// An image in parts, and the machine that it goes to.
+struct Job {
+    file: Vec<u8>,
+    /// Address and bytes of each segment.
+    segments: Vec<(usize, Vec<u8>)>,
+    transfer: u32,
+    settings: LoadSettings,
+    memory: Vec<u8>,
+}
+
+impl Job {
+    fn new(body: &[u8], regions: &[Region], settings: LoadSettings, memory: Vec<u8>) -> Job {
+        const TRANSFER: u32 = 0x0102_0304;
+        let mut segments = Vec::new();
+        for region in regions {
+            let bytes = &body[region.offset as usize..][..region.length as usize];
+            let mut address = region.address as usize;
+            for part in bytes.chunks(settings.segment_size as usize) {
+                segments.push((address, part.to_vec()));
+                address += part.len();
+            }
+        }
+        Job {
+            file: build(body, regions, TRANSFER),
+            segments,
+            transfer: TRANSFER,
+            settings,
+            memory,
+        }
+    }
+
+    /// The paper's claim of a load, after any list of events.
+    fn claim(&self, link: &Link<Load>) -> Result<(), String> {
+        let record = link.record;
+        let segments = self.segments.len();
+        let most = segments as u64 * (u64::from(self.settings.repeats) + 1);
+        let taken = link.taken_from_host();
+        if record.sent != taken || taken > most {
+            return Err(format!("{taken} sent, at most {most}"));
+        }
+        let position = record.position as usize;
+        let holds = match (record.waiting, record.verdict) {
+            (1, _) => self.first_are_in(0, link),
+            (_, 1) => self.first_are_in(segments, link),
+            (_, 2) => self.first_are_in(position, link),
+            _ => self.first_are_in(position, link) || self.first_are_in(position + 1, link),
+        };
+        if holds {
+            Ok(())
+        } else {
+            Err(format!("the first {position} segments are in, or one more"))
+        }
+    }
+
+    /// Memory is the old one with the first k laid over it, all of which fit,
+    /// and the machine has started exactly if they are all.
+    fn first_are_in(&self, count: usize, link: &Link<Load>) -> bool {
+        let Some(segments) = self.segments.get(..count) else {
+            return false;
+        };
+        let mut memory = self.memory.clone();
+        for (address, bytes) in segments {
+            match memory.get_mut(*address..address + bytes.len()) {
+                Some(place) => place.copy_from_slice(bytes),
+                None => return false,
+            }
+        }
+        let started = link.state.state == STARTED && link.state.transfer == self.transfer;
+        let right = match count == self.segments.len() {
+            true => started,
+            false => link.state.state != STARTED,
+        };
+        right && memory == link.memory
+    }
+}
+
+/// The paper's claim of a dump, after any list of events.
+fn dump_claim(link: &Link<Dump>, memory: &[u8], buffer: &[u8]) -> Result<(), String> {
+    let (record, settings) = (link.record, link.host.settings);
+    let most = sent_most(settings, record.replies);
+    let taken = link.taken_from_host();
+    if record.sent != taken || taken > most {
+        return Err(format!("{taken} sent, at most {most}"));
+    }
+    if link.memory != memory {
+        return Err("memory stays".to_string());
+    }
+    let filled = record.filled as usize;
+    if record.verdict == 1 && filled != buffer.len() {
+        return Err("a finished dump is whole".to_string());
+    }
+    let from = settings.address as usize;
+    let byte = |place| memory.get(from + place).copied().unwrap_or(0);
+    let filed: Vec<u8> = (0..filled).map(byte).collect();
+    if link.buffer[..filled] != filed || link.buffer[filled..] != buffer[filled..] {
+        return Err("the filled part is memory, the rest untouched".to_string());
+    }
+    Ok(())
+}
+
+impl Compare {
+    /// The rehearsal's example, with the transcript that the paper gives.
+    pub fn set_run(&mut self) {
+        let file = example();
+        let host = Load {
+            settings: EXAMPLE_SETTINGS,
+            file: Hex(&file),
+        };
+        let machine = loadable(0, 0);
+        let mut link = Link::new(self, &host, &machine, &[0; 8], &[]);
+        for letter in "txmhtht".chars() {
+            link.event(self, letter, ROOM);
+        }
+        let first = vec![2, 0, 2, 0, 0, 0, 10, 11];
+        let wanted = vec![
+            (Side::Machine, vec![8, 0, 1, 2, 255, 0]),
+            (Side::Host, first.clone()),
+            (Side::Host, first),
+            (Side::Machine, vec![10, 1, 0]),
+            (Side::Host, vec![0, 1, 4, 0, 0, 0, 12, 2, 0, 0, 0]),
+            (Side::Machine, vec![10, 2, 0]),
+        ];
+        let seen = (&link.taken, link.record.verdict, link.record.sent);
+        let end = (link.state.state, link.state.transfer, &link.memory[..]);
+        if seen != (&wanted, 1, 3) || end != (STARTED, 2, &[0, 0, 10, 11, 12, 0, 0, 0]) {
+            let what = format_args!("the rehearsal's example");
+            self.report(what, Hex(&file), (seen, end), wanted);
+        }
+    }
+
+    /// Draws events from a mix until the host has a verdict and some more, or
+    /// there were so many, and checks the claim. `length` is the number of
+    /// segments answered or replies taken.
+    fn drive<H: End>(
+        &mut self,
+        mut link: Link<H>,
+        mix: Mix,
+        events: usize,
+        claim: impl Fn(&Link<H>) -> Result<(), String>,
+        length: impl Fn(&H::Record) -> u64,
+    ) {
+        let mut left = events;
+        while left > 0 {
+            if H::verdict(&link.record) != 0 {
+                left = left.min(AFTER_VERDICT);
+            }
+            left -= 1;
+            let letter = mix.letter(&mut self.random);
+            let room = mix.room(&mut self.random);
+            link.event(self, letter, room);
+            if self.random.once_in(PROBE_EVERY) {
+                link.probe(self);
+            }
+            if self.random.once_in(CLAIM_EVERY) {
+                self.check_claim(&link, &claim);
+            }
+        }
+        self.check_claim(&link, &claim);
+        let verdict = H::verdict(&link.record);
+        self.tally.ends.run(H::NAME, verdict, length(&link.record));
+    }
+
+    fn check_claim<H: End>(
+        &mut self,
+        link: &Link<H>,
+        claim: &impl Fn(&Link<H>) -> Result<(), String>,
+    ) {
+        if let Err(wanted) = claim(link) {
+            let what = format_args!("claim of a {} over the link", H::NAME);
+            let ends = (link.record, link.state);
+            let seen = (ends, Hex(&link.memory), Hex(&link.buffer));
+            self.report(what, (link.host, link.machine, &link.events), seen, wanted);
+        }
+    }
+
+    fn any_mix(&mut self) -> Mix {
+        let any = Mix {
+            weights: [(); 8].map(|()| 1 + self.random.below(9)),
+            short: 10,
+        };
+        self.random
+            .pick(&[CLEAN, DOUBLED, LOSSY, LOSSY, SILENT, any])
+    }
+
+    pub fn load_runs(&mut self) {
+        for _ in 0..2500 {
+            let job = self.any_job();
+            let mix = self.any_mix();
+            let events = self.random.range(0, 30 + 12 * job.segments.len());
+            self.load_run(&job, mix, events);
+        }
+        // Numbers wrap from 256 segments on, and must not be confused then.
+        for round in 0..36 {
+            let count = match round {
+                0 => 256,
+                1 => 257,
+                2 => 258,
+                _ => self.random.range(257, 700),
+            };
+            let job = self.long_job(count);
+            let mix = [CLEAN, DOUBLED, LOSSY][round % 3];
+            self.load_run(&job, mix, 16 * count);
+        }
+    }
+
+    fn load_run(&mut self, job: &Job, mix: Mix, events: usize) {
+        let host = Load {
+            settings: job.settings,
+            file: Hex(&job.file),
+        };
+        let machine = loadable(self.random.u8(), self.random.u8());
+        let link = Link::new(self, &host, &machine, &job.memory, &[]);
+        let claim = |link: &Link<Load>| job.claim(link);
+        self.drive(link, mix, events, claim, |record| record.position);
+    }
+
+    /// A few regions, mostly inside memory, in a few segments.
+    fn any_job(&mut self) -> Job {
+        let scale = self.random.pick(&[1, 1, 1, 60]);
+        let body_length = scale * self.random.range(1, 40);
+        let body = self.random.bytes(body_length);
+        let mut end = 0;
+        let mut regions = Vec::new();
+        for _ in 0..self.random.range(1, 4) {
+            let address = end + self.random.pick(&[0, 0, 1, 7]);
+            let length = self.random.range(1, body_length);
+            regions.push(Region {
+                address: address as u32,
+                offset: self.random.range(0, body_length - length) as u32,
+                length: length as u32,
+            });
+            end = address + length;
+        }
+        let least = body_length.div_ceil(6);
+        let settings = LoadSettings {
+            segment_size: self.random.range(least, 40 * scale).min(1490) as u32,
+            repeats: self.random.pick(&[0, 1, 2, 3, 255]),
+        };
+        let memory_length = match self.random.below(6) {
+            0 => self.random.range(0, end),
+            1 => end,
+            _ => end + self.random.range(0, 20),
+        };
+        let memory = self.random.bytes(memory_length);
+        Job::new(&body, &regions, settings, memory)
+    }
+
+    /// One region in this many segments, which all fit, or all but the last.
+    fn long_job(&mut self, count: usize) -> Job {
+        let size = self.random.range(1, 3);
+        let length = count * size - self.random.range(0, size - 1);
+        let body = self.random.bytes(length);
+        let address = self.random.range(0, 30);
+        let end = address + length;
+        let memory_length = self.random.pick(&[end - 1, end, end + 5, end + 5]);
+        let memory = self.random.bytes(memory_length);
+        let region = Region {
+            address: address as u32,
+            offset: 0,
+            length: length as u32,
+        };
+        let settings = LoadSettings {
+            segment_size: size as u32,
+            repeats: self.random.pick(&[20, 255]),
+        };
+        Job::new(&body, &[region], settings, memory)
+    }
+
+    pub fn dump_runs(&mut self) {
+        for _ in 0..2500 {
+            let length = self.random.range(1, 60);
+            let most = [(); 2].map(|()| self.random.range(1, 20) as u32);
+            let mix = self.any_mix();
+            let events = self.random.range(0, 40 + 6 * length);
+            self.dump_run(length, most, mix, events);
+        }
+        for round in 0..12 {
+            let (length, most) = match round % 2 {
+                0 => (self.random.range(257, 700), [1, 1]),
+                _ => (self.random.range(3000, 9000), [1495, 1495]),
+            };
+            let mix = [CLEAN, DOUBLED, LOSSY][round % 3];
+            self.dump_run(length, most, mix, 8000);
+        }
+    }
+
+    /// A dump of `length` bytes, with C and D.
+    fn dump_run(&mut self, length: usize, most: [u32; 2], mix: Mix, events: usize) {
+        let memory_length = self.random.pick(&[0, 1, length / 2, length, 2 * length]);
+        let memory = self.random.bytes(memory_length);
+        let top = u32::MAX - (length as u32 - 1);
+        let near = self.random.range(0, memory_length) as u32;
+        let host = Dump {
+            settings: DumpSettings {
+                length: length as u64,
+                address: self
+                    .random
+                    .pick(&[0, near, near, memory_length as u32, top]),
+                most: most[0],
+                repeats: self.random.pick(&[0, 1, 2, 3, 255, 255]),
+            },
+        };
+        let machine = Machine {
+            settings: MachineSettings {
+                dump_most: most[1],
+                ..Default::default()
+            },
+            purpose: Purpose::Dump,
+        };
+        let buffer = self.random.bytes(length);
+        let link = Link::new(self, &host, &machine, &memory, &buffer);
+        let claim = |link: &Link<Dump>| dump_claim(link, &memory, &buffer);
+        self.drive(link, mix, events, claim, |record| record.replies);
+    }
+}
+
+/// A machine that starts for a load.
+pub fn loadable(device: u8, processor: u8) -> Machine {
+    Machine {
+        settings: MachineSettings {
+            dump_most: 1,
+            device,
+            processor,
+        },
+        purpose: Purpose::Load,
+    }
+}

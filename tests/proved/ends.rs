@@ -1,0 +1,288 @@
+//! The machine end and the host's load and dump.
+
+use std::mem::offset_of;
+
+use crate::{Written, input, output};
+
+/// `mop_machine_settings`
+#[repr(C)]
+#[derive(Clone, Copy, Debug, Default, PartialEq, Eq)]
+pub struct MachineSettings {
+    pub dump_most: u32,
+    pub device: u8,
+    pub processor: u8,
+}
+
+/// `mop_machine`
+#[repr(C)]
+#[derive(Clone, Copy, Debug, Default, PartialEq, Eq)]
+pub struct Machine {
+    pub transfer: u32,
+    pub state: u8,
+    pub expected: u8,
+    pub error: u8,
+}
+
+/// `mop_load_settings`
+#[repr(C)]
+#[derive(Clone, Copy, Debug, Default, PartialEq, Eq)]
+pub struct LoadSettings {
+    pub segment_size: u32,
+    pub repeats: u32,
+}
+
+/// `mop_load`
+#[repr(C)]
+#[derive(Clone, Copy, Debug, Default, PartialEq, Eq)]
+pub struct Load {
+    pub position: u64,
+    pub sent: u64,
+    pub repeats: u32,
+    pub waiting: u8,
+    pub verdict: u8,
+}
+
+/// `mop_dump_settings`
+#[repr(C)]
+#[derive(Clone, Copy, Debug, Default, PartialEq, Eq)]
+pub struct DumpSettings {
+    pub length: u64,
+    pub address: u32,
+    pub most: u32,
+    pub repeats: u32,
+}
+
+/// `mop_dump`
+#[repr(C)]
+#[derive(Clone, Copy, Debug, Default, PartialEq, Eq)]
+pub struct Dump {
+    pub filled: u64,
+    pub replies: u64,
+    pub sent: u64,
+    pub repeats: u32,
+    pub waiting: u8,
+    pub verdict: u8,
+}
+
+/// `mop_machine_step`, `mop_load_step`, `mop_dump_step`; a loop test's too
+#[repr(C)]
+#[derive(Clone, Copy, Debug, Default, PartialEq, Eq)]
+pub struct Step<Record> {
+    pub record: Record,
+    pub answer: Written,
+}
+
+// The same numbers as in layout.c.
+const _: () = {
+    assert!(size_of::<MachineSettings>() == 8 && offset_of!(MachineSettings, processor) == 5);
+    assert!(size_of::<Machine>() == 8 && offset_of!(Machine, state) == 4);
+    assert!(offset_of!(Machine, error) == 6);
+    assert!(size_of::<LoadSettings>() == 8 && offset_of!(LoadSettings, repeats) == 4);
+    assert!(size_of::<Load>() == 24 && offset_of!(Load, sent) == 8);
+    assert!(offset_of!(Load, waiting) == 20 && offset_of!(Load, verdict) == 21);
+    assert!(size_of::<DumpSettings>() == 24 && offset_of!(DumpSettings, address) == 8);
+    assert!(offset_of!(DumpSettings, most) == 12 && offset_of!(DumpSettings, repeats) == 16);
+    assert!(size_of::<Dump>() == 32 && offset_of!(Dump, replies) == 8);
+    assert!(offset_of!(Dump, sent) == 16 && offset_of!(Dump, verdict) == 29);
+    assert!(size_of::<Step<Machine>>() == 24 && offset_of!(Step<Machine>, answer) == 8);
+    assert!(size_of::<Step<Load>>() == 40 && offset_of!(Step<Load>, answer) == 24);
+    assert!(size_of::<Step<Dump>>() == 48 && offset_of!(Step<Dump>, answer) == 32);
+};
+
+unsafe extern "C" {
+    fn mop_machine_start_load(
+        settings: MachineSettings,
+        memory: *const u8,
+        memory_length: usize,
+        reply: *mut u8,
+        reply_length: usize,
+    ) -> Step<Machine>;
+    fn mop_machine_start_dump(
+        settings: MachineSettings,
+        memory: *const u8,
+        memory_length: usize,
+        reply: *mut u8,
+        reply_length: usize,
+    ) -> Step<Machine>;
+    fn mop_machine_frame(
+        settings: MachineSettings,
+        machine: Machine,
+        frame: *const u8,
+        frame_length: usize,
+        memory: *mut u8,
+        memory_length: usize,
+        reply: *mut u8,
+        reply_length: usize,
+    ) -> Step<Machine>;
+    fn mop_machine_timer(
+        settings: MachineSettings,
+        machine: Machine,
+        memory: *const u8,
+        memory_length: usize,
+        reply: *mut u8,
+        reply_length: usize,
+    ) -> Step<Machine>;
+    fn mop_load_start() -> Load;
+    fn mop_load_frame(
+        settings: LoadSettings,
+        session: Load,
+        file: *const u8,
+        file_length: usize,
+        frame: *const u8,
+        frame_length: usize,
+        reply: *mut u8,
+        reply_length: usize,
+    ) -> Step<Load>;
+    fn mop_load_timer(
+        settings: LoadSettings,
+        session: Load,
+        file: *const u8,
+        file_length: usize,
+        reply: *mut u8,
+        reply_length: usize,
+    ) -> Step<Load>;
+    fn mop_dump_start() -> Dump;
+    fn mop_dump_frame(
+        settings: DumpSettings,
+        session: Dump,
+        frame: *const u8,
+        frame_length: usize,
+        buffer: *mut u8,
+        buffer_length: usize,
+        reply: *mut u8,
+        reply_length: usize,
+    ) -> Step<Dump>;
+    fn mop_dump_timer(
+        settings: DumpSettings,
+        session: Dump,
+        buffer: *const u8,
+        buffer_length: usize,
+        reply: *mut u8,
+        reply_length: usize,
+    ) -> Step<Dump>;
+}
+
+// As in lib.rs, the pointers are good for the lengths beside them, and what is
+// borrowed for writing overlaps nothing else.
+
+pub fn machine_start_load(
+    settings: MachineSettings,
+    memory: &[u8],
+    reply: &mut [u8],
+) -> Step<Machine> {
+    let (from, to) = (input(memory), output(reply));
+    unsafe { mop_machine_start_load(settings, from, memory.len(), to, reply.len()) }
+}
+
+pub fn machine_start_dump(
+    settings: MachineSettings,
+    memory: &[u8],
+    reply: &mut [u8],
+) -> Step<Machine> {
+    let (from, to) = (input(memory), output(reply));
+    unsafe { mop_machine_start_dump(settings, from, memory.len(), to, reply.len()) }
+}
+
+pub fn machine_frame(
+    settings: MachineSettings,
+    machine: Machine,
+    frame: &[u8],
+    memory: &mut [u8],
+    reply: &mut [u8],
+) -> Step<Machine> {
+    let (from, store, to) = (input(frame), output(memory), output(reply));
+    unsafe {
+        mop_machine_frame(
+            settings,
+            machine,
+            from,
+            frame.len(),
+            store,
+            memory.len(),
+            to,
+            reply.len(),
+        )
+    }
+}
+
+pub fn machine_timer(
+    settings: MachineSettings,
+    machine: Machine,
+    memory: &[u8],
+    reply: &mut [u8],
+) -> Step<Machine> {
+    let (from, to) = (input(memory), output(reply));
+    unsafe { mop_machine_timer(settings, machine, from, memory.len(), to, reply.len()) }
+}
+
+pub fn load_start() -> Load {
+    unsafe { mop_load_start() }
+}
+
+pub fn load_frame(
+    settings: LoadSettings,
+    session: Load,
+    file: &[u8],
+    frame: &[u8],
+    reply: &mut [u8],
+) -> Step<Load> {
+    let (image, from, to) = (input(file), input(frame), output(reply));
+    unsafe {
+        mop_load_frame(
+            settings,
+            session,
+            image,
+            file.len(),
+            from,
+            frame.len(),
+            to,
+            reply.len(),
+        )
+    }
+}
+
+pub fn load_timer(
+    settings: LoadSettings,
+    session: Load,
+    file: &[u8],
+    reply: &mut [u8],
+) -> Step<Load> {
+    let (image, to) = (input(file), output(reply));
+    unsafe { mop_load_timer(settings, session, image, file.len(), to, reply.len()) }
+}
+
+pub fn dump_start() -> Dump {
+    unsafe { mop_dump_start() }
+}
+
+pub fn dump_frame(
+    settings: DumpSettings,
+    session: Dump,
+    frame: &[u8],
+    buffer: &mut [u8],
+    reply: &mut [u8],
+) -> Step<Dump> {
+    let (from, store, to) = (input(frame), output(buffer), output(reply));
+    unsafe {
+        mop_dump_frame(
+            settings,
+            session,
+            from,
+            frame.len(),
+            store,
+            buffer.len(),
+            to,
+            reply.len(),
+        )
+    }
+}
+
+pub fn dump_timer(
+    settings: DumpSettings,
+    session: Dump,
+    buffer: &[u8],
+    reply: &mut [u8],
+) -> Step<Dump> {
+    let (from, to) = (input(buffer), output(reply));
+    unsafe { mop_dump_timer(settings, session, from, buffer.len(), to, reply.len()) }
+}
