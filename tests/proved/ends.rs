@@ -160,6 +160,28 @@ unsafe extern "C" {
         reply: *mut u8,
         reply_length: usize,
     ) -> Step<Dump>;
+    fn mop_load_update(
+        session: *mut Load,
+        settings: LoadSettings,
+        timer: u8,
+        file: *const u8,
+        file_length: usize,
+        frame: *const u8,
+        frame_length: usize,
+        reply: *mut u8,
+        reply_length: usize,
+    ) -> Written;
+    fn mop_dump_update(
+        session: *mut Dump,
+        settings: DumpSettings,
+        timer: u8,
+        frame: *const u8,
+        frame_length: usize,
+        buffer: *mut u8,
+        buffer_length: usize,
+        reply: *mut u8,
+        reply_length: usize,
+    ) -> Written;
 }
 
 // As in lib.rs, the pointers are good for the lengths beside them, and what is
@@ -251,6 +273,31 @@ pub fn load_timer(
     unsafe { mop_load_timer(settings, session, image, file.len(), to, reply.len()) }
 }
 
+/// `timer` is 0 where a frame has come.
+pub fn load_update(
+    session: &mut Load,
+    settings: LoadSettings,
+    timer: u8,
+    file: &[u8],
+    frame: &[u8],
+    reply: &mut [u8],
+) -> Written {
+    let (image, from, to) = (input(file), input(frame), output(reply));
+    unsafe {
+        mop_load_update(
+            session,
+            settings,
+            timer,
+            image,
+            file.len(),
+            from,
+            frame.len(),
+            to,
+            reply.len(),
+        )
+    }
+}
+
 pub fn dump_start() -> Dump {
     unsafe { mop_dump_start() }
 }
@@ -285,4 +332,28 @@ pub fn dump_timer(
 ) -> Step<Dump> {
     let (from, to) = (input(buffer), output(reply));
     unsafe { mop_dump_timer(settings, session, from, buffer.len(), to, reply.len()) }
+}
+
+pub fn dump_update(
+    session: &mut Dump,
+    settings: DumpSettings,
+    timer: u8,
+    frame: &[u8],
+    buffer: &mut [u8],
+    reply: &mut [u8],
+) -> Written {
+    let (from, store, to) = (input(frame), output(buffer), output(reply));
+    unsafe {
+        mop_dump_update(
+            session,
+            settings,
+            timer,
+            from,
+            frame.len(),
+            store,
+            buffer.len(),
+            to,
+            reply.len(),
+        )
+    }
 }

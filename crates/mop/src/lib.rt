@@ -9,6 +9,7 @@ ghost use Rattle.image.specs.Image.{checked, found};
 ghost use Rattle.mop.specs.Image.{image, segment};
 ghost use Rattle.machine.specs.Machine.{Left as MachineLeft, machineFrame, machineTimer, requesting, offering};
 ghost use Rattle.load.specs.Load.{Left as LoadLeft, fresh as freshLoad, loadFrame, loadTimer};
+ghost use Rattle.mop.specs.Update.{loadStep, LoadUpdated, dumpStep, DumpUpdated};
 ghost use Rattle.dump.specs.Dump.{Left as DumpLeft, fresh as freshDump, dumpFrame, dumpTimer};
 ghost use Rattle.looptest.specs.Loop.{Left as LoopLeft, loopStart, loopFrame, loopTimer};
 use fields::Fields;
@@ -292,6 +293,40 @@ pub extern "C" fn mop_load_timer(
     load::timer(settings, session, file, reply)
 }
 
+// A step on a frame, or on a timer.
+fn load_step(
+    session: load::Session,
+    settings: load::Settings,
+    timer: u8,
+    file: &[u8],
+    frame: &[u8],
+    reply: &mut [u8],
+) -> load::Stepped
+    ensures { λ r. ⌜ LoadLeft (loadStep session settings timer (now (file .entry)) (now (frame .entry)) (now (reply .entry))) r (now (reply .exit)) ⌝ }
+{
+    if timer == 0 {
+        return load::frame(settings, session, file, frame, reply);
+    }
+    load::timer(settings, session, file, reply)
+}
+
+// The record is updated in its place.
+#[no_mangle]
+pub extern "C" fn mop_load_update(
+    session: &mut load::Session,
+    settings: load::Settings,
+    timer: u8,
+    file: &[u8],
+    frame: &[u8],
+    reply: &mut [u8],
+) -> Written
+    ensures { λ r. ⌜ LoadUpdated (loadStep (now (session .entry)) settings timer (now (file .entry)) (now (frame .entry)) (now (reply .entry))) (now (session .exit)) r (now (reply .exit)) ⌝ }
+{
+    let r = load_step(*session, settings, timer, file, frame, reply);
+    *session = r.session;
+    r.answer
+}
+
 // The host's dump: mop_dump of the header.
 
 #[no_mangle]
@@ -324,6 +359,40 @@ pub extern "C" fn mop_dump_timer(
     ensures { λ r. ⌜ DumpLeft (dumpTimer settings session (now (buffer .entry)) (now (reply .entry))) r (now (buffer .entry)) (now (reply .exit)) ⌝ }
 {
     dump::timer(settings, session, buffer, reply)
+}
+
+// A step on a frame, or on a timer.
+fn dump_step(
+    session: dump::Session,
+    settings: dump::Settings,
+    timer: u8,
+    frame: &[u8],
+    buffer: &mut [u8],
+    reply: &mut [u8],
+) -> dump::Stepped
+    ensures { λ r. ⌜ DumpLeft (dumpStep session settings timer (now (frame .entry)) (now (buffer .entry)) (now (reply .entry))) r (now (buffer .exit)) (now (reply .exit)) ⌝ }
+{
+    if timer == 0 {
+        return dump::frame(settings, session, frame, buffer, reply);
+    }
+    dump::timer(settings, session, buffer, reply)
+}
+
+// The record is updated in its place.
+#[no_mangle]
+pub extern "C" fn mop_dump_update(
+    session: &mut dump::Session,
+    settings: dump::Settings,
+    timer: u8,
+    frame: &[u8],
+    buffer: &mut [u8],
+    reply: &mut [u8],
+) -> Written
+    ensures { λ r. ⌜ DumpUpdated (dumpStep (now (session .entry)) settings timer (now (frame .entry)) (now (buffer .entry)) (now (reply .entry))) (now (session .exit)) r (now (buffer .exit)) (now (reply .exit)) ⌝ }
+{
+    let r = dump_step(*session, settings, timer, frame, buffer, reply);
+    *session = r.session;
+    r.answer
 }
 
 // The host's loop test: mop_loop of the header.

@@ -6,7 +6,7 @@ use crate::make;
 use crate::tally::Hex;
 use mop_plain::dump::{self, Progress, Session};
 use mop_plain::step::Sent;
-use mop_proved::{DumpSettings, Step};
+use mop_proved::{DumpSettings, Step, Written};
 
 const ADDRESS_END: u64 = 1 << 32;
 
@@ -68,6 +68,18 @@ impl End for Dump {
             }
             Event::Timer => mop_proved::dump_timer(self.settings, record, buffer, reply),
         }
+    }
+
+    fn in_place(
+        &self,
+        record: &mut Self::Record,
+        event: Event,
+        buffer: &mut [u8],
+        reply: &mut [u8],
+    ) -> Option<Written> {
+        let (timer, frame) = event.numbers()?;
+        let answer = mop_proved::dump_update(record, self.settings, timer, frame, buffer, reply);
+        Some(answer)
     }
 
     fn begun(&self) -> Self::Record {

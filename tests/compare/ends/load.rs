@@ -7,7 +7,7 @@ use crate::tally::Hex;
 use mop_plain::image;
 use mop_plain::load::{self, Progress, Session};
 use mop_plain::step::Sent;
-use mop_proved::{LoadSettings, Step};
+use mop_proved::{LoadSettings, Step, Written};
 
 const FILE_MOST: usize = 16_777_216;
 
@@ -69,6 +69,19 @@ impl End for Load<'_> {
             }
             Event::Timer => mop_proved::load_timer(self.settings, record, file, reply),
         }
+    }
+
+    fn in_place(
+        &self,
+        record: &mut Self::Record,
+        event: Event,
+        _: &mut [u8],
+        reply: &mut [u8],
+    ) -> Option<Written> {
+        let (timer, frame) = event.numbers()?;
+        let (settings, Hex(file)) = (self.settings, self.file);
+        let answer = mop_proved::load_update(record, settings, timer, file, frame, reply);
+        Some(answer)
     }
 
     fn begun(&self) -> Self::Record {

@@ -54,6 +54,17 @@ pub trait End: Debug {
         reply: &mut [u8],
     ) -> Step<Self::Record>;
 
+    /// The same step with the record updated in its place, where there is one.
+    fn in_place(
+        &self,
+        _: &mut Self::Record,
+        _: Event,
+        _: &mut [u8],
+        _: &mut [u8],
+    ) -> Option<Written> {
+        None
+    }
+
     /// The record that a start makes; a start that is refused gives it too.
     fn begun(&self) -> Self::Record;
 
@@ -69,7 +80,17 @@ pub enum Event<'a> {
     Timer,
 }
 
-impl Event<'_> {
+impl<'a> Event<'a> {
+    /// Whether the timer has run out, and the frame: what a step in its place
+    /// is given. With a timer the frame is not looked at.
+    fn numbers(&self) -> Option<(u8, &'a [u8])> {
+        match *self {
+            Event::Start => None,
+            Event::Frame(Hex(bytes)) => Some((0, bytes)),
+            Event::Timer => Some((255, &[8, 0, 1, 2, 255, 0])),
+        }
+    }
+
     fn name(&self) -> &'static str {
         match self {
             Event::Start => "start",
@@ -179,6 +200,11 @@ impl Compare {
         if proved.store != plain.store {
             let (seen, wanted) = (Hex(&proved.store), Hex(&plain.store));
             self.differ_in_step("memory or dump buffer", &case, store, seen, wanted);
+        }
+        if let Some((seen, lent)) = run_in_place(&case, &before)
+            && (seen != expected || lent != plain)
+        {
+            self.differ_in_step("in its place", &case, store, seen, expected);
         }
         if let Err(wanted) = judge(&case, answer, &before, &plain) {
             self.differ_in_step("plain step against the paper", &case, store, answer, wanted);
@@ -299,8 +325,15 @@ fn run_proved<E: End>(case: &Case<E>, lent: &mut Lent) -> Step<E::Record> {
     case.end.proved(case.record, case.event, store, reply)
 }
 
-/// A plain answer in the shape of mop.h; a refusal gives the record back, and
-/// that of a start has all numbers 0.
+fn run_in_place<E: End>(case: &Case<E>, before: &Lent) -> Option<(Step<E::Record>, Lent)> {
+    let mut lent = before.clone();
+    let mut record = case.record;
+    let (store, reply) = lent.parts();
+    let answer = case.end.in_place(&mut record, case.event, store, reply)?;
+    Some((Step { record, answer }, lent))
+}
+
+/// A plain answer in the shape of mop.h; a refusal gives the record back.
 fn in_c<E: End>(case: &Case<E>, answer: Result<(E::Record, Sent), u8>) -> Step<E::Record> {
     match answer {
         Ok((record, sent)) => Step {
