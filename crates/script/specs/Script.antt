@@ -81,7 +81,7 @@ isImage line = only hexadecimal line && eqb (length line % 2) 0
 unfoldable pub bytes : List ℕ → List ℕ
 bytes [] = []
 bytes (a ∷ []) = []
-bytes (a ∷ b ∷ rest) = place a hexadecimal * 16 + place b hexadecimal ∷ bytes rest
+bytes (a ∷ b ∷ rest) = (place a hexadecimal * 16 + place b hexadecimal) ∷ bytes rest
 
 -- ---- the third line: events, perhaps none
 abbrev pub events : List ℕ

@@ -1,24 +1,19 @@
 use borrow.Author.Needs.{needs}
+use borrow.Author.Tests.{eq-eqb, ne-eqb}
 use Rattle.queue.proofs.leave.Statement.{statement}
 use Rattle.queue.proofs.leave.Tie as tie
-use Rattle.queue.proofs.leave.Reads as reads
-use Rattle.queue.proofs.leave.Lts as lts
 
--- src/lib.rt:75:9
 returns : tie.Need-returns
-returns c = ?
+returns c = rw (eq-eqb _ _ (c .if1 .taken))
 
--- src/lib.rt:78:19
 add-next : tie.Need-add-next
 add-next c = search needs
 
--- src/lib.rt:79:17
 sub-next : tie.Need-sub-next
 sub-next c = search needs
 
--- src/lib.rt:71:1
 returns-2 : tie.Need-returns-2
-returns-2 c = ?
+returns-2 c = rw (ne-eqb _ _ (c .before .before .if1 .left))
 
 pub leave-spec : {M : Type 1} → statement M
 leave-spec = tie.close (tie.spec returns add-next sub-next returns-2)

@@ -1,29 +1,22 @@
 use borrow.Author.Needs.{needs}
+use borrow.Author.Tests.{eq-eqb, ne-eqb}
 use Rattle.queue.proofs.length.Statement.{statement}
 use Rattle.queue.proofs.length.Tie as tie
-use Rattle.queue.proofs.length.Reads as reads
-use Rattle.queue.proofs.length.Lts as lts
-use Rattle.queue.proofs.front.Reads as front-reads
 
--- src/lib.rt:43:9
 returns : tie.Need-returns
-returns c = ?
+returns c = rw (eq-eqb _ _ (c .if1 .taken))
 
--- src/lib.rt:45:9
 front-requires : tie.Need-front-requires
 front-requires c κs = search needs
 
--- src/lib.rt:46:5
 mul-result : tie.Need-mul-result
 mul-result c = search needs
 
--- src/lib.rt:46:5
 element-copy-out-result : tie.Need-element-copy-out-result
 element-copy-out-result c = search needs
 
--- src/lib.rt:39:1
 returns-2 : tie.Need-returns-2
-returns-2 c = ?
+returns-2 c = rw (ne-eqb _ _ (c .before .before .if1 .left), c .before .front .ensures .0)
 
 pub length-spec : {M : Type 1} → statement M
 length-spec =
