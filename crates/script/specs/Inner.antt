@@ -13,8 +13,8 @@ abbrev pub unsettled : Numbers
 unsettled = record { memory = 0; size = 0; repeats = 0; fine = false }
 
 -- the first line's numbers
+abbrev pub numbers : List ℕ → Numbers
+numbers line = record { memory = value 0 (memory line); size = value 0 (size line); repeats = value 0 (repeats line); fine = true }
+
 abbrev pub settings : List ℕ → Numbers
-settings line =
-    pick (isSettings line)
-    (record { memory = value 0 (memory line); size = value 0 (size line); repeats = value 0 (repeats line); fine = true })
-    unsettled
+settings line = pick (isSettings line) (numbers line) unsettled

@@ -1,7 +1,7 @@
 // The rehearsal program's input: its check, and the image's bytes (paper 01, 'Rehearsal program and its transcript').
 ghost use mathlib.Core.Path.{_≡_};
 ghost use mathlib.Core.Bool.{true};
-ghost use Prim.Native.Nat.{_+_, _≤_, _<_, min};
+ghost use Prim.Native.Nat.{_+_, _/_, _≤_, _<_, min};
 ghost use lib.ListN.{length, getD, drop};
 ghost use Rattle.octets.specs.Lay.{Came};
 ghost use Rattle.script.specs.Script.{place, only, decimal, isNumber, value, hexadecimal, isImage, bytes, malformed, checked, decoded};
@@ -106,7 +106,7 @@ fn value(s: &[u8]) -> usize
 
 // A number from low to high; 10,000 for anything else.
 fn number(s: &[u8], low: usize, high: usize) -> usize
-    requires { ⌜ high < 10000 ⌝ }
+    requires { ⌜ (low ≤ high) × (high < 10000) ⌝ }
     ensures { λ r. ⌜ r ≡ number low high (now (s .entry)) ⌝ }
 {
     if !is_number(s) {
@@ -229,7 +229,7 @@ pub fn check(input: &[u8]) -> Script
 
 // Byte k of the image.
 fn byte(digits: &[u8], k: usize) -> u8
-    requires { ⌜ (isImage (now digits) ≡ true) × (k < length (bytes (now digits))) ⌝ }
+    requires { ⌜ (isImage (now digits) ≡ true) × (k < length (now digits) / 2) ⌝ }
     ensures { λ r. ⌜ r ≡ getD (bytes (now (digits .entry))) k 0 ⌝ }
 {
     (nibble(digits[2 * k]) * 16 + nibble(digits[2 * k + 1])) as u8

@@ -1,41 +1,44 @@
+use Prim.Native.Nat.{_+_, _-_}
+use mathlib.Core.Path.{_≡_, refl}
+use native.Mathlib.Omega.{arith}
+use lib.ListN.{length, drop}
+use Rattle.script.specs.Script.{place}
+use Rattle.script.specs.Laws.{place-here, place-on, place-end}
 use Rattle.script.proofs.find.Statement.{statement}
 use Rattle.script.proofs.find.Tie as tie
-use Rattle.script.proofs.find.Reads as reads
-use Rattle.script.proofs.find.Lts as lts
 
 abbrev Inv-loop : tie.InvT-loop
-Inv-loop s b from i₀ i = ?
+Inv-loop s b from i₀ i = i + place b (drop i s) ≡ from + place b (drop from s)
 
 abbrev μ-loop : tie.MeasureT-loop
-μ-loop s b from i₀ i = ?
+μ-loop s b from i₀ i = length s - i
 
--- src/lib.rt:36:5
 loop-holds : tie.Need-loop-holds Inv-loop μ-loop
-loop-holds c = ?
+loop-holds c = refl
 
--- src/lib.rt:37:12
 shared-slice-read-if1 : tie.Need-shared-slice-read-if1 Inv-loop μ-loop
-shared-slice-read-if1 c = ?
+shared-slice-read-if1 c = omega arith
 
--- src/lib.rt:38:13
 returns : tie.Need-returns Inv-loop μ-loop
-returns c = ?
+returns c =
+    let a = c .before .before .before .before .args in
+    omega (arith, place-here (a .b) (a .s .now) (c .before .before .before .loop .i) (omega arith) (c .if1 .taken))
 
--- src/lib.rt:40:9
 add-i : tie.Need-add-i Inv-loop μ-loop
-add-i c = ?
+add-i c = omega arith
 
--- src/lib.rt:36:5
 loop-less : tie.Need-loop-less Inv-loop μ-loop
-loop-less c = ?
+loop-less c = omega arith
 
--- src/lib.rt:36:5
 loop-again : tie.Need-loop-again Inv-loop μ-loop
-loop-again c = ?
+loop-again c =
+    let a = c .before .before .before .before .args in
+    omega (arith, place-on (a .b) (a .s .now) (c .before .before .before .loop .i) (omega arith) (c .if1 .left))
 
--- src/lib.rt:32:1
 returns-2 : tie.Need-returns-2 Inv-loop μ-loop
-returns-2 c = ?
+returns-2 c =
+    let a = c .before .before .args in
+    omega (arith, place-end (a .b) (a .s .now) (c .before .loop .i) (c .loop-test .left))
 
 pub find-spec : {M : Type 1} → statement M
 find-spec =
