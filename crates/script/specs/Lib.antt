@@ -2,3 +2,5 @@ pub mod Script
 pub mod Inner
 pub mod Laws
 pub mod Answers
+pub mod Lines
+pub mod Cases
