@@ -1,27 +1,111 @@
-/* mop.h: the proved reader, writers, image calls and ends of Kochipurn, for C.
+/* mop.h: Kochipurn for C. The proved reader and writers of MOP frames, the
+ * image file, the machine end, and the host's load, dump and loop test.
  *
- * Link with libmop.a (make lib). Nothing here allocates, keeps state or
- * fails otherwise than by a refusal.
+ * Link with libmop.a (make lib), which needs the C library alone. No call
+ * allocates, blocks, prints, keeps anything between calls, or fails otherwise
+ * than by a refusal. Threads may call at once if none writes what another
+ * uses.
  *
- * Frames, files and buffers are a pointer and a length; a null pointer with
- * length 0 is fine. A refusal is one of the numbers below, 0 for none, and
- * leaves every buffer as it was. Any bytes and any numbers are answered: no
- * call has a condition that the caller must meet, but that each pointer is
- * good for its length and that an output buffer overlaps no input.
  *
- *   1  the frame is empty or ends too early
- *   2  bytes are left over, or the frame has more than 1,500
- *   3  the code is not listed
- *   4  a program type, software form, entry type, entry length or time
- *      field is outside its list
- *   5  the image file is under 16 or above 16,777,216 bytes, or its length
- *      field or zero field is wrong
- *   6  the image's entry count or directory offset is wrong
- *   7  an image entry breaks its own rule
- *   8  an image entry begins before the end of the one before
- *   9  the output buffer is too short
- *  10  a setting, a memory length, an index or a range is outside its
- *      bounds, or a record is one that cannot be
+ * A load and a dump, from the first call to the last
+ * --------------------------------------------------
+ * The line is the caller's; here it is two functions:
+ *
+ *     // Sends a frame to the machine.
+ *     void line_send(const uint8_t *frame, size_t length);
+ *
+ *     // Waits for a frame from the machine: its length, or -1 if the timer
+ *     // has run out. It drops a frame of more than room bytes.
+ *     int line_wait(uint8_t *frame, size_t room);
+ *
+ * The rest is these two. Each ends with a verdict, or with a refusal below 0
+ * if a call was wrong; a frame that is refused is dropped, and the wait goes
+ * on.
+ *
+ *     // Loads an image file into the machine.
+ *     int load(const uint8_t *file, size_t file_length)
+ *     {
+ *         mop_load_settings settings = {.segment_size = 1024, .repeats = 5};
+ *         mop_load session = mop_load_start();
+ *         uint8_t frame[MOP_FRAME_MOST], reply[MOP_FRAME_MOST];
+ *
+ *         while (session.verdict == MOP_LOAD_RUNNING) {
+ *             int length = line_wait(frame, sizeof frame);
+ *             mop_load_step step;
+ *             if (length < 0)
+ *                 step = mop_load_timer(settings, session, file, file_length,
+ *                     reply, sizeof reply);
+ *             else
+ *                 step = mop_load_frame(settings, session, file, file_length,
+ *                     frame, (size_t)length, reply, sizeof reply);
+ *             if (step.answer.refusal >= MOP_REFUSED_FILE)
+ *                 return -step.answer.refusal;
+ *             session = step.session;
+ *             if (step.answer.length > 0)
+ *                 line_send(reply, step.answer.length);
+ *         }
+ *         return session.verdict; // MOP_LOAD_FINISHED: it is in and started
+ *     }
+ *
+ *     // Dumps the machine's memory from address on until the buffer is full.
+ *     int dump(uint32_t address, uint8_t *buffer, size_t buffer_length)
+ *     {
+ *         mop_dump_settings settings = {.length = buffer_length,
+ *             .address = address, .most = 1024, .repeats = 5};
+ *         mop_dump session = mop_dump_start();
+ *         uint8_t frame[MOP_FRAME_MOST], reply[MOP_FRAME_MOST];
+ *
+ *         while (session.verdict == MOP_DUMP_RUNNING) {
+ *             int length = line_wait(frame, sizeof frame);
+ *             mop_dump_step step;
+ *             if (length < 0)
+ *                 step = mop_dump_timer(settings, session,
+ *                     buffer, buffer_length, reply, sizeof reply);
+ *             else
+ *                 step = mop_dump_frame(settings, session,
+ *                     frame, (size_t)length, buffer, buffer_length,
+ *                     reply, sizeof reply);
+ *             if (step.answer.refusal >= MOP_REFUSED_FILE)
+ *                 return -step.answer.refusal;
+ *             session = step.session;
+ *             if (step.answer.length > 0)
+ *                 line_send(reply, step.answer.length);
+ *         }
+ *         return session.verdict; // MOP_DUMP_FINISHED: the buffer is full
+ *     }
+ *
+ * Both wait without end for a machine that never asks: while the host waits,
+ * a timer does nothing, and the caller may stop at any time. The machine's
+ * side of both is in examples/c/load_and_dump.c.
+ *
+ *
+ * What holds for every call
+ * -------------------------
+ * Bytes. Frames, files, memories and buffers are lent as a pointer and a
+ * length, for the time of the call. The pointer is good for that many bytes;
+ * with length 0 it may be null. What is lent for writing (a pointer without
+ * const) overlaps nothing else that is lent. Nothing else is asked of the
+ * caller: any bytes and any numbers are answered.
+ *
+ * Refusals. Each call answers a refusal, 0 for none. A refusal changes
+ * nothing: the answered record is the one that came in, the answered length
+ * is 0, and every lent byte is as it was. Where several refusals apply, the
+ * first in the order given at the call is answered.
+ *
+ * Order. In every step: settings, record, lent bytes that stay the same over
+ * a session, frame, memory or dump buffer, reply buffer. The two calls that
+ * update a record in its place have it first, before the settings.
+ *
+ * Records. A step takes a session's record by value and answers the next one.
+ * Keep it, hand it to the next step, and change nothing in it; the same
+ * settings, file, memory, data and buffer go into each step of a session.
+ * Once a verdict is not 0, no frame and no timer changes anything or sends
+ * anything. A frame that can't be read is refused even then.
+ *
+ * Verdicts. What they say of the machine holds where its end is this library's
+ * or does the same, where the line alters no frame and keeps their order (it
+ * may lose any and hand over any twice), and where nothing else writes record,
+ * memory or buffer. docs/ASSURANCE.md has the theorems.
  */
 #ifndef MOP_H
 #define MOP_H
@@ -33,332 +117,548 @@
 extern "C" {
 #endif
 
+/* ---- Numbers --------------------------------------------------------- */
+
+/* The refusals. 1 to 4 are the frame's, 5 to 8 the image file's, 9 and 10
+ * the caller's. A writer gives 2 and 4 for what it was asked to write. */
+enum mop_refusal {
+    MOP_ACCEPTED = 0,          /* no refusal */
+    MOP_REFUSED_SHORT = 1,     /* the frame is empty or ends too early */
+    MOP_REFUSED_LONG = 2,      /* bytes are left over, or it is above 1,500 */
+    MOP_REFUSED_CODE = 3,      /* the code is not listed */
+    MOP_REFUSED_FIELD = 4,     /* a program type, software form, entry type,
+                                  entry length or time field is outside its
+                                  list */
+    MOP_REFUSED_FILE = 5,      /* the file is under 16 or above 16,777,216
+                                  bytes, or its length field or zero field is
+                                  wrong */
+    MOP_REFUSED_DIRECTORY = 6, /* the entry count or the directory offset is
+                                  wrong */
+    MOP_REFUSED_ENTRY = 7,     /* a directory entry breaks its own rule */
+    MOP_REFUSED_OVERLAP = 8,   /* a region begins before the last one's end */
+    MOP_REFUSED_ROOM = 9,      /* the output or reply buffer is too short */
+    MOP_REFUSED_RANGE = 10     /* a setting, length or index is outside its
+                                  range, or the record is bad */
+};
+
+/* The most of each, all included. */
+enum mop_limit {
+    MOP_FRAME_MOST = 1500,      /* bytes of a frame; a reply buffer has at
+                                   least as many */
+    MOP_SEGMENT_MOST = 1490,    /* bytes of a segment */
+    MOP_DUMP_DATA_MOST = 1495,  /* bytes of memory in a dump reply */
+    MOP_LOOP_DATA_MOST = 1497,  /* bytes of a loop test's data */
+    MOP_REPEATS_MOST = 255,     /* repeats of a frame */
+    MOP_FILE_MOST = 16777216,   /* bytes of an image file; the least is 16 */
+    MOP_MEMORY_MOST = 16777216, /* bytes of a machine's memory */
+    MOP_REGIONS_MOST = 64       /* regions of an image; the least is 1 */
+};
+
+/* The codes, a frame's first byte. Each has the writer of its name. */
+enum mop_code {
+    MOP_CODE_LOAD_TRANSFER = 0,         /* memory load with transfer */
+    MOP_CODE_DUMP_COMPLETE = 1,         /* dump complete */
+    MOP_CODE_LOAD = 2,                  /* memory load */
+    MOP_CODE_VOLUNTEER = 3,             /* assistance volunteer */
+    MOP_CODE_REQUEST_DUMP = 4,          /* request memory dump */
+    MOP_CODE_REQUEST_PROGRAM = 8,       /* request program */
+    MOP_CODE_REQUEST_LOAD = 10,         /* request memory load */
+    MOP_CODE_REQUEST_DUMP_SERVICE = 12, /* request dump service */
+    MOP_CODE_DUMP_DATA = 14,            /* memory dump data */
+    MOP_CODE_PARAMETERS = 20,           /* parameter load with transfer */
+    MOP_CODE_LOOP = 24,                 /* loop data */
+    MOP_CODE_LOOPED = 26                /* looped data */
+};
+
+/* The program types of code 8. */
+enum mop_program {
+    MOP_PROGRAM_SECONDARY = 0, /* secondary loader */
+    MOP_PROGRAM_TERTIARY = 1,  /* tertiary loader */
+    MOP_PROGRAM_SYSTEM = 2     /* operating system */
+};
+
+/* The software forms of code 8; 1 to 16 are the length of an id. */
+enum mop_form {
+    MOP_FORM_NONE = 0,          /* no id */
+    MOP_FORM_MAINTENANCE = 254, /* maintenance system */
+    MOP_FORM_STANDARD = 255     /* standard system */
+};
+
+/* The entry types of code 20. */
+enum mop_entry {
+    MOP_ENTRY_TARGET_NAME = 1,    /* at most 16 bytes */
+    MOP_ENTRY_TARGET_ADDRESS = 2, /* at most 6 bytes */
+    MOP_ENTRY_HOST_NAME = 3,      /* at most 16 bytes */
+    MOP_ENTRY_HOST_ADDRESS = 4,   /* at most 6 bytes */
+    MOP_ENTRY_HOST_TIME = 5       /* exactly 10 bytes: century 0 to 127, year
+                                     0 to 100, month 1 to 12, day 1 to 31,
+                                     hour 0 to 23, minute and second 0 to 59,
+                                     hundredths 0 to 99, offset hours -12 to
+                                     13, offset minutes -59 to 59, the last
+                                     two not of opposite signs */
+};
+
+/* The machine's states. */
+enum mop_machine_state {
+    MOP_MACHINE_IDLE = 0,
+    MOP_MACHINE_OFFERING = 1,   /* offers its memory to be dumped */
+    MOP_MACHINE_REQUESTING = 2, /* asks for a program */
+    MOP_MACHINE_LOADING = 3,
+    MOP_MACHINE_STARTED = 4 /* runs what was loaded; ignores every frame */
+};
+
+/* The verdicts of a load of N segments. 'In' is: in the machine's memory. */
+enum mop_load_verdict {
+    MOP_LOAD_RUNNING = 0,    /* not over: the first c or c + 1 segments are in,
+                                c being the record's position; none while it
+                                waits */
+    MOP_LOAD_FINISHED = 1,   /* all N are in, and the machine is started */
+    MOP_LOAD_REJECTED = 2,   /* the machine gave an error: the first c are in,
+                                and it is not started */
+    MOP_LOAD_GIVEN_UP = 3,   /* no answer to a segment that is not the last:
+                                the first c or c + 1 are in, not started */
+    MOP_LOAD_UNCONFIRMED = 4 /* no answer to the last segment: all N are in
+                                and the machine is started, or the first N - 1
+                                are and it is not */
+};
+
+/* The verdicts of a dump. */
+enum mop_dump_verdict {
+    MOP_DUMP_RUNNING = 0,  /* not over: the bytes filled are memory's */
+    MOP_DUMP_FINISHED = 1, /* the buffer is full, and is what memory has */
+    MOP_DUMP_GIVEN_UP = 3  /* no answer: the bytes filled are memory's */
+};
+
+/* The verdicts of a loop test. */
+enum mop_loop_verdict {
+    MOP_LOOP_OPEN = 0,    /* not over */
+    MOP_LOOP_LOOPED = 1,  /* the data came back as code 26, from a machine */
+    MOP_LOOP_PLUG = 2,    /* the data came back as code 24, from a plug */
+    MOP_LOOP_GIVEN_UP = 3 /* the data did not come back */
+};
+
 /* ---- Reading a frame ------------------------------------------------- */
 
 /* A frame's fields. Those that its code does not have are 0.
  *
  *   code                            fields
  *    0 memory load with transfer    number, address, data, transfer
+ *    1 dump complete
  *    2 memory load                  number, address, data
+ *    3 assistance volunteer
+ *    4 request memory dump          address, count
  *    8 request program              device, format, program, form, id,
  *                                   processor, info
  *   10 request memory load          number, error
- *    4 request memory dump          address, count
  *   12 request dump service         device, format, memory_size,
  *                                   compatibility, info
  *   14 memory dump data             address, data
- *    1 dump complete, 3 assistance volunteer
  *   20 parameter load with transfer number, entries, transfer
- *   24 loop data, 26 looped data    receipt, data
- *
- * data, info and entries are the data_length bytes of the frame from
- * data_at on; id is the id_length bytes from id_at on. Entries are without
- * their end mark. */
+ *   24 loop data                    receipt, data
+ *   26 looped data                  receipt, data
+ */
 typedef struct mop_frame {
-    size_t data_at;
-    size_t data_length;
-    size_t id_at;
-    size_t id_length;
-    uint32_t address;
-    uint32_t transfer;
-    uint32_t memory_size;
-    uint16_t count;
-    uint16_t receipt;
-    uint8_t refusal; /* 0, or 1 to 4, and then every other field is 0 */
-    uint8_t code;
-    uint8_t number;
-    uint8_t error;
-    uint8_t device;
-    uint8_t format;
-    uint8_t program; /* 0 secondary, 1 tertiary, 2 operating system */
-    uint8_t form;    /* 0 none, 1 to 16 the id's length, 254, 255 */
-    uint8_t processor;
-    uint8_t compatibility;
+    size_t data_at;        /* where data, info or entries begin in the frame */
+    size_t data_length;    /* their bytes; entries are without the end mark */
+    size_t id_at;          /* where the software id begins in the frame */
+    size_t id_length;      /* its bytes: form if that is 1 to 16, else 0 */
+    uint32_t address;      /* memory address */
+    uint32_t transfer;     /* transfer address */
+    uint32_t memory_size;  /* the machine's memory, in bytes */
+    uint16_t count;        /* bytes asked for */
+    uint16_t receipt;      /* receipt number of a loop test */
+    uint8_t refusal;       /* 0, or 1 to 4 and then all else is 0 */
+    uint8_t code;          /* MOP_CODE_.. */
+    uint8_t number;        /* number of the load */
+    uint8_t error;         /* 0 for none */
+    uint8_t device;        /* device type */
+    uint8_t format;        /* format version */
+    uint8_t program;       /* MOP_PROGRAM_.. */
+    uint8_t form;          /* MOP_FORM_.., or 1 to 16, the id's length */
+    uint8_t processor;     /* processor type */
+    uint8_t compatibility; /* compatibility code */
 } mop_frame;
 
-/* The fields of a frame, or a refusal (1 to 4). */
+/* Reads a frame.
+ *   In     the frame's bytes; they are not changed.
+ *   Out    its fields.
+ *   Refuses, in this order: 1 for an empty frame; 3 for its code; 1 for a
+ *          frame under its code's least length; 2 for one above 1,500 bytes
+ *          or, for codes 1, 3, 4 and 10, above its only length; then its
+ *          bytes in turn, 4 for one outside its list and 1 where the frame
+ *          ends first; 2 for what is left over in a code 20.
+ */
 mop_frame mop_read(const uint8_t *frame, size_t frame_length);
 
 /* ---- Writing a frame ------------------------------------------------- */
 
-/* What a writer answers: the frame's length, and refusal 0; or length 0 and
- * a refusal: 4 (codes 8 and 20 only), then 2 for a frame above 1,500 bytes,
- * then 9 for a buffer shorter than the frame. The frame stands at the
- * buffer's start, and the bytes behind it stay. */
+/* What a writer or a step answers. */
 typedef struct mop_written {
-    size_t length;
-    uint8_t refusal;
+    size_t length;   /* bytes of the frame, which stands at the buffer's start;
+                        0 for none */
+    uint8_t refusal; /* 0, or a refusal and then the length is 0 */
 } mop_written;
 
-/* code 0, memory load with transfer */
+/* The writers. Each writes one frame.
+ *   In     the fields in the frame's order, any values; lent bytes are not
+ *          changed.
+ *   Out    the frame at the start of out; the bytes behind it stay.
+ *   Refuses, in this order: 4 (codes 8 and 20 only, see there); 2 for a frame
+ *          above 1,500 bytes; 9 for a frame longer than out. Then out stays
+ *          as it was.
+ */
+
+/* Code 0, memory load with transfer: 10 bytes and the data. */
 mop_written mop_write_load_transfer(uint8_t number, uint32_t address,
-    const uint8_t *data, size_t data_length, uint32_t transfer,
-    uint8_t *out, size_t out_length);
+    const uint8_t *data, size_t data_length, uint32_t transfer, uint8_t *out,
+    size_t out_length);
 
-/* code 2, memory load */
+/* Code 2, memory load: 6 bytes and the data. */
 mop_written mop_write_load(uint8_t number, uint32_t address,
-    const uint8_t *data, size_t data_length,
-    uint8_t *out, size_t out_length);
+    const uint8_t *data, size_t data_length, uint8_t *out, size_t out_length);
 
-/* code 8, request program. The id has exactly the length that the form
- * says: form bytes for forms 1 to 16, none for 0, 254 and 255. */
+/* Code 8, request program: 6 bytes, the id and the info. Refuses with 4 a
+ * program above 2, a form of 17 to 253, and an id that has not exactly the
+ * length that the form says: form bytes for forms 1 to 16, none for 0, 254
+ * and 255. */
 mop_written mop_write_request_program(uint8_t device, uint8_t format,
     uint8_t program, uint8_t form, const uint8_t *id, size_t id_length,
-    uint8_t processor, const uint8_t *info, size_t info_length,
-    uint8_t *out, size_t out_length);
+    uint8_t processor, const uint8_t *info, size_t info_length, uint8_t *out,
+    size_t out_length);
 
-/* code 10, request memory load */
-mop_written mop_write_request_load(uint8_t number, uint8_t error,
-    uint8_t *out, size_t out_length);
+/* Code 10, request memory load: 3 bytes. */
+mop_written mop_write_request_load(
+    uint8_t number, uint8_t error, uint8_t *out, size_t out_length);
 
-/* code 4, request memory dump */
-mop_written mop_write_request_dump(uint32_t address, uint16_t count,
-    uint8_t *out, size_t out_length);
+/* Code 4, request memory dump: 7 bytes. */
+mop_written mop_write_request_dump(
+    uint32_t address, uint16_t count, uint8_t *out, size_t out_length);
 
-/* code 12, request dump service */
+/* Code 12, request dump service: 8 bytes and the info. */
 mop_written mop_write_request_dump_service(uint8_t device, uint8_t format,
-    uint32_t memory_size, uint8_t compatibility,
-    const uint8_t *info, size_t info_length,
-    uint8_t *out, size_t out_length);
+    uint32_t memory_size, uint8_t compatibility, const uint8_t *info,
+    size_t info_length, uint8_t *out, size_t out_length);
 
-/* code 14, memory dump data */
-mop_written mop_write_dump_data(uint32_t address,
-    const uint8_t *data, size_t data_length,
-    uint8_t *out, size_t out_length);
+/* Code 14, memory dump data: 5 bytes and the data. */
+mop_written mop_write_dump_data(uint32_t address, const uint8_t *data,
+    size_t data_length, uint8_t *out, size_t out_length);
 
-/* code 1, dump complete */
+/* Code 1, dump complete: 1 byte. */
 mop_written mop_write_dump_complete(uint8_t *out, size_t out_length);
 
-/* code 3, assistance volunteer */
+/* Code 3, assistance volunteer: 1 byte. */
 mop_written mop_write_volunteer(uint8_t *out, size_t out_length);
 
-/* code 20, parameter load with transfer. The entries are one string without
- * the end mark: type, length and value of each, one after the other. */
-mop_written mop_write_parameters(uint8_t number,
-    const uint8_t *entries, size_t entries_length, uint32_t transfer,
-    uint8_t *out, size_t out_length);
+/* Code 20, parameter load with transfer: 7 bytes and the entries. These are
+ * one string without the end mark: type, length and value of each, one after
+ * the other. Refuses with 4 a string that breaks an entry's rule or ends
+ * within an entry. */
+mop_written mop_write_parameters(uint8_t number, const uint8_t *entries,
+    size_t entries_length, uint32_t transfer, uint8_t *out, size_t out_length);
 
-/* code 24, loop data */
-mop_written mop_write_loop(uint16_t receipt,
-    const uint8_t *data, size_t data_length,
-    uint8_t *out, size_t out_length);
+/* Code 24, loop data: 3 bytes and the data. */
+mop_written mop_write_loop(uint16_t receipt, const uint8_t *data,
+    size_t data_length, uint8_t *out, size_t out_length);
 
-/* code 26, looped data */
-mop_written mop_write_looped(uint16_t receipt,
-    const uint8_t *data, size_t data_length,
-    uint8_t *out, size_t out_length);
+/* Code 26, looped data: 3 bytes and the data. */
+mop_written mop_write_looped(uint16_t receipt, const uint8_t *data,
+    size_t data_length, uint8_t *out, size_t out_length);
 
 /* ---- The image file -------------------------------------------------- */
 
-/* An accepted image: the number of segments at the given segment size, the
- * transfer address and the number of regions; or a refusal, and then the
- * other fields are 0. */
+/* An accepted image. */
 typedef struct mop_image {
-    uint64_t segments;
-    uint32_t transfer;
-    uint16_t regions;
-    uint8_t refusal;
+    uint64_t segments; /* N, how many of the given size there are */
+    uint32_t transfer; /* transfer address */
+    uint16_t regions;  /* how many regions it has, 1 to 64 */
+    uint8_t refusal;   /* 0, or a refusal and then all else is 0 */
 } mop_image;
 
-/* Checks an image file. segment_size is 1 to 1,490, else 10; then 5, 6, and
- * 7 or 8 for the first entry that breaks a rule. The cost grows with the
- * number of regions only. */
-mop_image mop_image_check(const uint8_t *file, size_t file_length,
-    uint32_t segment_size);
+/* Checks an image file.
+ *   In     the file, which is not changed; segment_size, 1 to 1,490.
+ *   Out    what it holds. The cost grows with the regions alone.
+ *   Refuses, in this order: 10 for the segment size; 5; 6; then the directory
+ *          entries in turn, 7 before 8.
+ */
+mop_image mop_image_check(
+    const uint8_t *file, size_t file_length, uint32_t segment_size);
 
-/* Segment i: its memory address, and its length bytes of the file from at
- * on; last is 1 for the last segment, else 0. Or a refusal, and then the
- * other fields are 0. */
+/* A segment of an image. */
 typedef struct mop_segment {
-    size_t at;
-    size_t length;
-    uint32_t address;
-    uint8_t last;
-    uint8_t refusal;
+    size_t at;        /* where its bytes begin in the file */
+    size_t length;    /* how many it has, 1 to the segment size */
+    uint32_t address; /* their memory address */
+    uint8_t last;     /* 1 for the last segment, else 0 */
+    uint8_t refusal;  /* 0, or a refusal and then all else is 0 */
 } mop_segment;
 
-/* Segment number index of an image, counted from 0: the image's refusals as
- * mop_image_check gives them, then 10 for an index at or above the number of
- * segments. The cost grows with the number of regions only. */
+/* Finds a segment of an image.
+ *   In     the file, which is not changed; segment_size, 1 to 1,490; index,
+ *          counted from 0.
+ *   Out    where the segment is. The cost grows with the regions alone.
+ *   Refuses, in this order: what mop_image_check refuses; 10 for an index at
+ *          or above the number of segments.
+ */
 mop_segment mop_image_segment(const uint8_t *file, size_t file_length,
     uint32_t segment_size, uint64_t index);
 
 /* ---- The machine end ------------------------------------------------- */
 
-/* Its settings: the most bytes of a dump reply (1 to 1,495), its device and
- * its processor. */
+/* The machine's settings. */
 typedef struct mop_machine_settings {
-    uint32_t dump_most;
-    uint8_t device;
-    uint8_t processor;
+    uint32_t dump_most; /* D, the most bytes of a dump reply, 1 to 1,495 */
+    uint8_t device;     /* device type in its own frames */
+    uint8_t processor;  /* processor type in its own frames */
 } mop_machine_settings;
 
-/* Its state: 0 Idle, 1 Offering, 2 Requesting, 3 Loading, 4 Started. The
- * expected number and the last error are Loading's, the transfer address is
- * Started's; in a state that is not theirs they are not looked at, and a
- * state that is entered has them 0. */
+/* The machine's record. In a state that is not theirs expected, error and
+ * transfer are not looked at; a state that is entered has them 0. */
 typedef struct mop_machine {
-    uint32_t transfer;
-    uint8_t state;
-    uint8_t expected;
-    uint8_t error;
+    uint32_t transfer; /* Started: the transfer address */
+    uint8_t state;     /* MOP_MACHINE_.. */
+    uint8_t expected;  /* Loading: the number of the load that comes next */
+    uint8_t error;     /* Loading: the error of the last reply */
 } mop_machine;
 
-/* What a step gives: the next state, and the length of the frame that
- * stands in the reply buffer to be sent, 0 for none, or a refusal. A
- * refusal gives the state back as it came, and leaves memory and the reply
- * buffer as they were. */
+/* What a step of the machine answers. */
 typedef struct mop_machine_step {
-    mop_machine machine;
-    mop_written answer;
+    mop_machine machine; /* the next record */
+    mop_written answer;  /* the frame to send, which stands in reply */
 } mop_machine_step;
 
-/* The start of a load (Requesting) and of a dump (Offering), each with its
- * first frame: 10 for a setting or a memory length (at most 16,777,216)
- * outside its range, then 9 for a reply buffer under 1,500 bytes. A start
- * that is refused gives the state of the start, and no frame. */
-mop_machine_step mop_machine_start_load(mop_machine_settings settings,
-    const uint8_t *memory, size_t memory_length,
-    uint8_t *reply, size_t reply_length);
-mop_machine_step mop_machine_start_dump(mop_machine_settings settings,
-    const uint8_t *memory, size_t memory_length,
-    uint8_t *reply, size_t reply_length);
+/* In each of the four calls below:
+ *   In     memory, address 0 first, at most 16,777,216 bytes; a reply buffer
+ *          of at least 1,500 bytes.
+ *   Out    the next record, and the length of the frame to send, 0 for none;
+ *          that frame at the start of reply, the bytes behind it as they were.
+ *   Refuses, in this order: 10 for dump_most, a memory that is too long or a
+ *          state above 4; 9 for the reply buffer; on a frame, 1 to 4 as
+ *          mop_read does. Then the record is answered as it came, and memory
+ *          and reply stay as they were.
+ */
 
-/* A frame has come: 10 (a state above 4 too), then 9, then the frame's own
- * refusal (1 to 4). A load that fits goes into memory. */
+/* Starts a load: the record is Requesting, the frame a code 8 for an operating
+ * system. If refused, the record is the same, and there is no frame. Of memory
+ * only the length matters. */
+mop_machine_step mop_machine_start_load(mop_machine_settings settings,
+    const uint8_t *memory, size_t memory_length, uint8_t *reply,
+    size_t reply_length);
+
+/* Starts a dump: the record is Offering, the frame a code 12 with the memory's
+ * length. If refused, the record is the same, and there is no frame. Of memory
+ * only the length matters. */
+mop_machine_step mop_machine_start_dump(mop_machine_settings settings,
+    const uint8_t *memory, size_t memory_length, uint8_t *reply,
+    size_t reply_length);
+
+/* A frame has come. Idle, Requesting and Loading take a load (codes 0 and 2)
+ * with number 0 or the expected one: it goes into memory if it fits, and code
+ * 10 answers with the next number, and error 1 if it does not fit. Then the
+ * state is Loading or, after a code 0 that fits, Started. Loading gives its
+ * last reply again to the number before the expected one. Idle and Offering
+ * answer code 4 with memory's bytes, 0 beyond its end. Idle answers code 24
+ * with 26. Code 1 turns Offering into Idle. All else is ignored. */
 mop_machine_step mop_machine_frame(mop_machine_settings settings,
     mop_machine machine, const uint8_t *frame, size_t frame_length,
-    uint8_t *memory, size_t memory_length,
-    uint8_t *reply, size_t reply_length);
+    uint8_t *memory, size_t memory_length, uint8_t *reply, size_t reply_length);
 
-/* Its timer has run out: 10, then 9. */
+/* The timer has run out. Requesting and Offering send their first frame
+ * again; other states do nothing. The record stays. Of memory only the length
+ * matters. */
 mop_machine_step mop_machine_timer(mop_machine_settings settings,
     mop_machine machine, const uint8_t *memory, size_t memory_length,
     uint8_t *reply, size_t reply_length);
 
 /* ---- The host's load ------------------------------------------------- */
 
-/* Its settings: the bytes of a segment (1 to 1,490), and the repeats
- * allowed per frame (0 to 255). */
+/* A load's settings. */
 typedef struct mop_load_settings {
-    uint32_t segment_size;
-    uint32_t repeats;
+    uint32_t segment_size; /* S, the bytes of a segment, 1 to 1,490 */
+    uint32_t repeats;      /* R, the repeats allowed per frame, 0 to 255 */
 } mop_load_settings;
 
-/* Its record: the segments answered, the frames sent, the repeats of the
- * frame on its way, whether it still waits for a request (1) or not (0),
- * and the verdict: 0 running, 1 finished, 2 rejected, 3 given up,
- * 4 unconfirmed. Once the verdict is not 0 nothing changes any more. */
+/* A load's record. */
 typedef struct mop_load {
-    uint64_t position;
-    uint64_t sent;
-    uint32_t repeats;
-    uint8_t waiting;
-    uint8_t verdict;
+    uint64_t position; /* c, the segments that the machine has answered */
+    uint64_t sent;     /* the frames sent, at most N x (R + 1) */
+    uint32_t repeats;  /* the repeats of the frame on its way, at most R */
+    uint8_t waiting;   /* 1 until a machine asks for a program, then 0 */
+    uint8_t verdict;   /* MOP_LOAD_.. */
 } mop_load;
 
-/* What a step gives: the next record, and the length of the frame to be
- * sent, 0 for none, or a refusal with the record as it came. */
+/* What a step of a load answers. */
 typedef struct mop_load_step {
-    mop_load session;
-    mop_written answer;
+    mop_load session;   /* the next record */
+    mop_written answer; /* the frame to send, which stands in reply */
 } mop_load_step;
 
-/* A record that waits for a machine's request. */
+/* The record of a load that waits for a machine's request: waiting 1, all else
+ * 0. Refuses nothing. */
 mop_load mop_load_start(void);
 
-/* A frame has come, or the timer has run out. The image file stays the same
- * over a load. Refusals: 10 for a setting or a bad record, 9 for a reply
- * buffer under 1,500 bytes, 5 to 8 for the image, 10 for what of the record
- * needs the number of segments, then the frame's own. */
+/* In each of the three calls below:
+ *   In     the image file, which is not changed and stays the same over a
+ *          load; a reply buffer of at least 1,500 bytes.
+ *   Out    the next record, and the length of the frame to send, 0 for none;
+ *          that frame at the start of reply, the bytes behind it as they were.
+ *   Refuses, in this order:
+ *          10 for a setting, for a record with a verdict above 4, repeats
+ *             above the settings', or waiting above 1, and for one that waits
+ *             and has another number that is not 0;
+ *          9 for the reply buffer;
+ *          5, 6, 7 and 8 as mop_image_check does;
+ *          10 for a position above N, for sent above N x (R + 1), and for the
+ *             verdict 1 at a position other than N, or another one at N;
+ *          1 to 4 for the frame as mop_read does.
+ *          Then the record is answered as it came, and reply stays as it was.
+ */
+
+/* A frame has come. Code 8 for an operating system ends the waiting, and the
+ * first segment goes out. Code 10 with the next number answers the segment on
+ * its way: the next one goes out, or the load is finished or rejected. All
+ * else is ignored. */
 mop_load_step mop_load_frame(mop_load_settings settings, mop_load session,
-    const uint8_t *file, size_t file_length,
-    const uint8_t *frame, size_t frame_length,
-    uint8_t *reply, size_t reply_length);
+    const uint8_t *file, size_t file_length, const uint8_t *frame,
+    size_t frame_length, uint8_t *reply, size_t reply_length);
+
+/* The timer has run out. The frame on its way goes out again if fewer than R
+ * repeats are used, else the load is given up or, at its last segment,
+ * unconfirmed. While it waits, nothing happens. */
 mop_load_step mop_load_timer(mop_load_settings settings, mop_load session,
-    const uint8_t *file, size_t file_length,
-    uint8_t *reply, size_t reply_length);
+    const uint8_t *file, size_t file_length, uint8_t *reply,
+    size_t reply_length);
+
+/* Both of these in one call, and the record is updated where it stands: with
+ * timer 0 a frame has come, with anything else the timer has run out, and then
+ * frame is not looked at (null and 0 will do). session points to a record that
+ * overlaps nothing else that is lent. If refused, it stays as it was. */
+mop_written mop_load_update(mop_load *session, mop_load_settings settings,
+    uint8_t timer, const uint8_t *file, size_t file_length,
+    const uint8_t *frame, size_t frame_length, uint8_t *reply,
+    size_t reply_length);
 
 /* ---- The host's dump ------------------------------------------------- */
 
-/* Its settings: length bytes (at least 1) from address on, with address +
- * length at most 4,294,967,296; the most bytes asked for at a time (1 to
- * 1,495); the repeats allowed per frame (0 to 255). */
+/* A dump's settings. */
 typedef struct mop_dump_settings {
-    uint64_t length;
-    uint32_t address;
-    uint32_t most;
-    uint32_t repeats;
+    uint64_t length;  /* L, the bytes to dump, at least 1 */
+    uint32_t address; /* A, where they begin; A + L is at most 4,294,967,296 */
+    uint32_t most;    /* C, the most bytes asked for at a time, 1 to 1,495 */
+    uint32_t repeats; /* R, the repeats allowed per frame, 0 to 255 */
 } mop_dump_settings;
 
-/* Its record: the bytes filled, the replies taken, the frames sent, the
- * repeats of the frame on its way, whether it still waits for an offer (1)
- * or not (0), and the verdict: 0 running, 1 finished, 3 given up. */
+/* A dump's record. */
 typedef struct mop_dump {
-    uint64_t filled;
-    uint64_t replies;
-    uint64_t sent;
-    uint32_t repeats;
-    uint8_t waiting;
-    uint8_t verdict;
+    uint64_t filled;  /* the bytes that stand in the buffer, at most L */
+    uint64_t replies; /* the replies taken, at most filled */
+    uint64_t sent;    /* the frames sent, at most (replies + 1) x (R + 1) + 1 */
+    uint32_t repeats; /* the repeats of the frame on its way, at most R */
+    uint8_t waiting;  /* 1 until a machine offers a dump, then 0 */
+    uint8_t verdict;  /* MOP_DUMP_.. */
 } mop_dump;
 
+/* What a step of a dump answers. */
 typedef struct mop_dump_step {
-    mop_dump session;
-    mop_written answer;
+    mop_dump session;   /* the next record */
+    mop_written answer; /* the frame to send, which stands in reply */
 } mop_dump_step;
 
-/* A record that waits for a machine's offer. */
+/* The record of a dump that waits for a machine's offer: waiting 1, all else
+ * 0. Refuses nothing. */
 mop_dump mop_dump_start(void);
 
-/* A frame has come, or the timer has run out. The buffer has exactly the
- * settings' length, and stays the same over a dump; a reply's bytes go into
- * it from the reached place on. Refusals: 10, then 9, then the frame's. */
+/* In each of the three calls below:
+ *   In     a dump buffer of exactly the settings' length, which the caller
+ *          leaves alone over a dump; a reply buffer of at least 1,500 bytes.
+ *   Out    the next record, and the length of the frame to send, 0 for none;
+ *          that frame at the start of reply, the bytes behind it as they were.
+ *   Refuses, in this order:
+ *          10 for a setting or the dump buffer's length, for a record with a
+ *             verdict above 3, repeats above the settings', filled above the
+ *             length, replies above filled, sent above its bound, or waiting
+ *             above 1, for one that waits and has another number that is not
+ *             0, and for the verdict 1 before the buffer is full, or another
+ *             one when it is;
+ *          9 for the reply buffer;
+ *          1 to 4 for the frame as mop_read does.
+ *          Then the record is answered as it came, and both buffers stay as
+ *          they were.
+ */
+
+/* A frame has come. Code 12 ends the waiting, and code 4 asks for the first
+ * bytes. Code 14 with the address asked for and 1 to as many bytes as asked
+ * for goes into the buffer behind the bytes filled, and the rest of the buffer
+ * stays; then code 4 asks for the next, or, the buffer being full, code 1 ends
+ * the dump. All else is ignored. */
 mop_dump_step mop_dump_frame(mop_dump_settings settings, mop_dump session,
-    const uint8_t *frame, size_t frame_length,
-    uint8_t *buffer, size_t buffer_length,
-    uint8_t *reply, size_t reply_length);
+    const uint8_t *frame, size_t frame_length, uint8_t *buffer,
+    size_t buffer_length, uint8_t *reply, size_t reply_length);
+
+/* The timer has run out. The frame on its way goes out again if fewer than R
+ * repeats are used, else code 1 goes out and the dump is given up. While it
+ * waits, nothing happens. The buffer stays, and only its length matters. */
 mop_dump_step mop_dump_timer(mop_dump_settings settings, mop_dump session,
-    const uint8_t *buffer, size_t buffer_length,
-    uint8_t *reply, size_t reply_length);
+    const uint8_t *buffer, size_t buffer_length, uint8_t *reply,
+    size_t reply_length);
+
+/* Both of these in one call, and the record is updated where it stands: with
+ * timer 0 a frame has come, with anything else the timer has run out, and then
+ * frame is not looked at (null and 0 will do). session points to a record that
+ * overlaps nothing else that is lent. If refused, it stays as it was. */
+mop_written mop_dump_update(mop_dump *session, mop_dump_settings settings,
+    uint8_t timer, const uint8_t *frame, size_t frame_length, uint8_t *buffer,
+    size_t buffer_length, uint8_t *reply, size_t reply_length);
 
 /* ---- The host's loop test -------------------------------------------- */
 
-/* Its settings: the repeats allowed (0 to 255), and the receipt that its
- * frame carries. */
+/* A loop test's settings. */
 typedef struct mop_loop_settings {
-    uint32_t repeats;
-    uint16_t receipt;
+    uint32_t repeats; /* R, the repeats allowed, 0 to 255 */
+    uint16_t receipt; /* the receipt number that its frame carries */
 } mop_loop_settings;
 
-/* Its record: the frames sent, the repeats, and the verdict: 0 open, 1 the
- * data came back as code 26, 2 it came back as code 24 (a plug), 3 given
- * up. */
+/* A loop test's record. */
 typedef struct mop_loop {
-    uint64_t sent;
-    uint32_t repeats;
-    uint8_t verdict;
+    uint64_t sent;    /* the frames sent, at most R + 1 */
+    uint32_t repeats; /* the repeats used, at most R */
+    uint8_t verdict;  /* MOP_LOOP_.. */
 } mop_loop;
 
+/* What a step of a loop test answers. */
 typedef struct mop_loop_step {
-    mop_loop session;
-    mop_written answer;
+    mop_loop session;   /* the next record */
+    mop_written answer; /* the frame to send, which stands in reply */
 } mop_loop_step;
 
-/* The start gives the record and the first frame. The settings and data (at
- * most 1,497 bytes) stay the same over a test. Refusals: 10, then 9, then
- * the frame's. A start that is refused gives the record of the start, and
- * no frame. A step on a frame sends nothing. */
-mop_loop_step mop_loop_start(mop_loop_settings settings,
-    const uint8_t *data, size_t data_length,
-    uint8_t *reply, size_t reply_length);
+/* In each of the three calls below:
+ *   In     the data, at most 1,497 bytes, which is not changed and stays the
+ *          same over a test; a reply buffer of at least 1,500 bytes.
+ *   Out    the next record, and the length of the frame to send, 0 for none;
+ *          that frame at the start of reply, the bytes behind it as they were.
+ *   Refuses, in this order: 10 for a setting or the data's length, and for a
+ *          record with a verdict above 3, repeats above the settings', or sent
+ *          above R + 1; 9 for the reply buffer; on a frame, 1 to 4 as mop_read
+ *          does. Then the record is answered as it came, and reply stays as it
+ *          was.
+ */
+
+/* Starts a test: the record has sent 1 and all else 0, and code 24 goes out.
+ * If refused, the record is the same, and there is no frame. */
+mop_loop_step mop_loop_start(mop_loop_settings settings, const uint8_t *data,
+    size_t data_length, uint8_t *reply, size_t reply_length);
+
+/* A frame has come. Code 26 or 24 with the test's receipt and data ends it;
+ * all else is ignored. Nothing is sent, so reply is not written; it is lent
+ * for the same refusals as in the other steps. */
 mop_loop_step mop_loop_frame(mop_loop_settings settings, mop_loop session,
-    const uint8_t *data, size_t data_length,
-    const uint8_t *frame, size_t frame_length,
-    const uint8_t *reply, size_t reply_length);
+    const uint8_t *data, size_t data_length, const uint8_t *frame,
+    size_t frame_length, const uint8_t *reply, size_t reply_length);
+
+/* The timer has run out. The frame goes out again if fewer than R repeats are
+ * used, else the test is given up. */
 mop_loop_step mop_loop_timer(mop_loop_settings settings, mop_loop session,
-    const uint8_t *data, size_t data_length,
-    uint8_t *reply, size_t reply_length);
+    const uint8_t *data, size_t data_length, uint8_t *reply,
+    size_t reply_length);
 
 #ifdef __cplusplus
 }
