@@ -1,7 +1,5 @@
 //! The machine end and the host's load and dump.
 
-use std::mem::offset_of;
-
 use crate::{Written, input, output};
 
 /// `mop_machine_settings`
@@ -73,21 +71,54 @@ pub struct Step<Record> {
 }
 
 // The same numbers as in layout.c.
-const _: () = {
-    assert!(size_of::<MachineSettings>() == 8 && offset_of!(MachineSettings, processor) == 5);
-    assert!(size_of::<Machine>() == 8 && offset_of!(Machine, state) == 4);
-    assert!(offset_of!(Machine, error) == 6);
-    assert!(size_of::<LoadSettings>() == 8 && offset_of!(LoadSettings, repeats) == 4);
-    assert!(size_of::<Load>() == 24 && offset_of!(Load, sent) == 8);
-    assert!(offset_of!(Load, waiting) == 20 && offset_of!(Load, verdict) == 21);
-    assert!(size_of::<DumpSettings>() == 24 && offset_of!(DumpSettings, address) == 8);
-    assert!(offset_of!(DumpSettings, most) == 12 && offset_of!(DumpSettings, repeats) == 16);
-    assert!(size_of::<Dump>() == 32 && offset_of!(Dump, replies) == 8);
-    assert!(offset_of!(Dump, sent) == 16 && offset_of!(Dump, verdict) == 29);
-    assert!(size_of::<Step<Machine>>() == 24 && offset_of!(Step<Machine>, answer) == 8);
-    assert!(size_of::<Step<Load>>() == 40 && offset_of!(Step<Load>, answer) == 24);
-    assert!(size_of::<Step<Dump>>() == 48 && offset_of!(Step<Dump>, answer) == 32);
-};
+layout!(MachineSettings, 8, [
+    dump_most 0 4,
+    device 4 1,
+    processor 5 1,
+]);
+layout!(Machine, 8, [
+    transfer 0 4,
+    state 4 1,
+    expected 5 1,
+    error 6 1,
+]);
+layout!(Step<Machine>, 24, [
+    record 0 8,
+    answer 8 16,
+]);
+layout!(LoadSettings, 8, [
+    segment_size 0 4,
+    repeats 4 4,
+]);
+layout!(Load, 24, [
+    position 0 8,
+    sent 8 8,
+    repeats 16 4,
+    waiting 20 1,
+    verdict 21 1,
+]);
+layout!(Step<Load>, 40, [
+    record 0 24,
+    answer 24 16,
+]);
+layout!(DumpSettings, 24, [
+    length 0 8,
+    address 8 4,
+    most 12 4,
+    repeats 16 4,
+]);
+layout!(Dump, 32, [
+    filled 0 8,
+    replies 8 8,
+    sent 16 8,
+    repeats 24 4,
+    waiting 28 1,
+    verdict 29 1,
+]);
+layout!(Step<Dump>, 48, [
+    record 0 32,
+    answer 32 16,
+]);
 
 unsafe extern "C" {
     fn mop_machine_start_load(

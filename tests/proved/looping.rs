@@ -1,7 +1,5 @@
 //! The host's loop test.
 
-use std::mem::offset_of;
-
 use crate::{Step, input, output};
 
 /// `mop_loop_settings`
@@ -22,11 +20,19 @@ pub struct Loop {
 }
 
 // The same numbers as in layout.c.
-const _: () = {
-    assert!(size_of::<LoopSettings>() == 8 && offset_of!(LoopSettings, receipt) == 4);
-    assert!(size_of::<Loop>() == 16 && offset_of!(Loop, verdict) == 12);
-    assert!(size_of::<Step<Loop>>() == 32 && offset_of!(Step<Loop>, answer) == 16);
-};
+layout!(LoopSettings, 8, [
+    repeats 0 4,
+    receipt 4 2,
+]);
+layout!(Loop, 16, [
+    sent 0 8,
+    repeats 8 4,
+    verdict 12 1,
+]);
+layout!(Step<Loop>, 32, [
+    record 0 16,
+    answer 16 16,
+]);
 
 unsafe extern "C" {
     fn mop_loop_start(
