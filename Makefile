@@ -1,11 +1,14 @@
 # Kochipurn. `make test` checks everything, `make run` runs the main job.
 
 RUSTC   = rustc --edition 2024 -C opt-level=3 -D warnings
-CFLAGS  = -std=c11 -Wall -Wextra -Wpedantic -Werror -Iinclude
+WARN    = -Wall -Wextra -Wpedantic -Wconversion -Werror
+CC11    = gcc -std=c11 $(WARN) -O2 -Iinclude
+CC99    = gcc -std=c99 $(WARN) -O2 -Iinclude
 OUT     = target/tests
+LIB     = target/staticlib/libmop.a
 FILE   ?= examples/frames.txt
 
-.PHONY: test run lib compare bench needs
+.PHONY: test run lib compare bench needs header layout examples guards sanitize lint
 
 # rt ci begins by removing target/, so it comes first; its last line is repeated at the end where all else passed.
 test: needs
@@ -20,9 +23,9 @@ run: target/bin/frames
 target/bin/frames: $(shell find crates -name '*.rt' -o -name '*.antt') crates.txt
 	rt check frames >/dev/null
 
-lib: target/staticlib/libmop.a
+lib: $(LIB)
 
-target/staticlib/libmop.a: $(shell find crates -name '*.rt' -o -name '*.antt') crates.txt
+$(LIB): $(shell find crates -name '*.rt' -o -name '*.antt') crates.txt
 	rt staticlib mop >/dev/null
 
 $(OUT)/libmop_plain.rlib: $(wildcard tests/independent/*.rs)
@@ -30,9 +33,8 @@ $(OUT)/libmop_plain.rlib: $(wildcard tests/independent/*.rs)
 	$(RUSTC) --crate-type rlib --crate-name mop_plain -o $@ tests/independent/lib.rs
 
 # The declarations on the Rust side, and the header's layout held to the same numbers.
-$(OUT)/libmop_proved.rlib: target/staticlib/libmop.a $(wildcard tests/proved/*) include/mop.h
+$(OUT)/libmop_proved.rlib: $(LIB) $(OUT)/layout $(wildcard tests/proved/*.rs)
 	@mkdir -p $(OUT)
-	gcc $(CFLAGS) -fsyntax-only tests/proved/layout.c
 	$(RUSTC) --crate-type rlib --crate-name mop_proved -L native=target/staticlib -o $@ tests/proved/lib.rs
 
 BOTH = --extern mop_plain=$(OUT)/libmop_plain.rlib --extern mop_proved=$(OUT)/libmop_proved.rlib
@@ -50,3 +52,79 @@ compare: $(OUT)/compare
 # Both implementations' speed, in one run.
 bench: $(OUT)/bench
 	$(OUT)/bench
+
+# ---- C.
+
+# The header alone: as C and, where there is a g++, as C++.
+header:
+	@for std in c99 c11 c17; do gcc -std=$$std $(WARN) -fsyntax-only -x c include/mop.h || exit 1; done
+	@command -v g++ >/dev/null || { echo "header: good C; there is no g++ to try it as C++"; exit 0; }; \
+	for std in c++11 c++14 c++17 c++20; do g++ -std=$$std $(WARN) -fsyntax-only -x c++ include/mop.h || exit 1; done; \
+	echo "header: good C and C++"
+
+$(OUT)/layout: tests/proved/layout.c include/mop.h
+	@mkdir -p $(OUT)
+	$(CC11) -DSTRUCTS=$$(grep -c '^typedef struct' include/mop.h) -o $@ $<
+
+# The layout of every struct, with the same numbers on the Rust side.
+layout: $(OUT)/layout
+	@$(OUT)/layout
+	@sed -n 's/.*\(FIELD\|INNER\)(.*, \([0-9]*\), \([0-9]*\)).*/\2 \3/p' tests/proved/layout.c >$(OUT)/layout_c
+	@cd tests/proved && sed -n 's/^    [a-z_]* \([0-9]*\) \([0-9]*\),$$/\1 \2/p' lib.rs ends.rs looping.rs | cmp - ../../$(OUT)/layout_c
+
+# The code on the header's first page.
+$(OUT)/page.inc: include/mop.h
+	@mkdir -p $(OUT)
+	sed -n '1,/^ \* What holds for every call/ s/^ \*     //p' $< >$@
+
+$(OUT)/page: tests/c/page.c $(OUT)/page.inc $(LIB)
+	$(CC99) -I$(OUT) -o $@ $< $(LIB)
+
+$(OUT)/load_and_dump: examples/c/load_and_dump.c include/mop.h $(LIB)
+	@mkdir -p $(OUT)
+	$(CC99) -o $@ $< $(LIB)
+
+# The example prints what is stored, and ends well.
+PRINTS = $(1) >$(OUT)/printed && diff examples/c/load_and_dump.expected $(OUT)/printed
+
+examples: $(OUT)/load_and_dump $(OUT)/page
+	$(call PRINTS,$(OUT)/load_and_dump)
+	$(OUT)/page
+
+# Every call between guard pages, and wrong calls that the test must find.
+GUARDS = main check lent make reading writing images machine load dump looping
+
+$(OUT)/guards_%.o: tests/c/%.c $(wildcard tests/c/*.h) include/mop.h
+	@mkdir -p $(OUT)
+	$(CC11) -c -o $@ $<
+
+$(OUT)/guards: $(GUARDS:%=$(OUT)/guards_%.o) $(LIB)
+	gcc -o $@ $^
+
+guards: header layout $(OUT)/guards
+	$(OUT)/guards
+	@tests/c/wrong.sh $(OUT) $(LIB)
+
+# The C programs with the address and undefined behaviour sanitizers, then plain under valgrind, where there is one,
+# with a smaller count.
+SANITIZE = -O1 -g -fsanitize=address,undefined -fno-sanitize-recover=all
+VALGRIND = valgrind --quiet --error-exitcode=1 --leak-check=full --child-silent-after-fork=yes
+
+sanitize: $(OUT)/guards $(OUT)/load_and_dump $(OUT)/page
+	$(CC11) $(SANITIZE) -o $(OUT)/guards_sanitized $(GUARDS:%=tests/c/%.c) $(LIB)
+	$(CC99) $(SANITIZE) -o $(OUT)/load_and_dump_sanitized examples/c/load_and_dump.c $(LIB)
+	$(CC99) $(SANITIZE) -I$(OUT) -o $(OUT)/page_sanitized tests/c/page.c $(LIB)
+	$(OUT)/guards_sanitized
+	$(call PRINTS,$(OUT)/load_and_dump_sanitized)
+	$(OUT)/page_sanitized
+	@command -v valgrind >/dev/null || { echo "sanitize: there is no valgrind"; exit 0; }; set -ex; \
+	$(VALGRIND) $(OUT)/guards 4; \
+	$(call PRINTS,$(VALGRIND) $(OUT)/load_and_dump); \
+	$(VALGRIND) $(OUT)/page
+
+# For those who edit the C sources: style and two more readers of the code.
+CSOURCES = include/mop.h examples/c/load_and_dump.c $(wildcard tests/c/*.c tests/c/*.h) tests/proved/layout.c
+lint: $(OUT)/page.inc
+	clang-format --dry-run -Werror $(CSOURCES)
+	cppcheck --quiet --std=c11 --error-exitcode=1 --enable=warning,style,performance,portability -Iinclude -I$(OUT) -DSTRUCTS=16 -DWRONG=1 $(filter %.c,$(CSOURCES))
+	clang-tidy --quiet --warnings-as-errors='*' $(filter %.c,$(CSOURCES)) -- -std=c11 -Iinclude -I$(OUT) -DSTRUCTS=16 -DWRONG=1

@@ -1,0 +1,249 @@
+/* The host's load: any settings, records, files and frames. */
+#include <string.h>
+
+#include "check.h"
+#include "lent.h"
+#include "make.h"
+#include "tests.h"
+
+static lent record, file, frame, reply;
+
+/* A call: what goes in, but for the buffers. */
+typedef struct input {
+    enum call call;
+    uint8_t timer; /* of mop_load_update */
+    mop_load_settings settings;
+    mop_load session;
+    uint8_t file[IMAGE_MOST];
+    size_t file_length;
+    uint8_t frame[BEYOND];
+    size_t frame_length;
+    size_t room;
+} input;
+
+static bool is_timer(const input *in)
+{
+    return in->call == LOAD_TIMER ||
+           (in->call == LOAD_UPDATE && in->timer != 0);
+}
+
+/* Whether the record is bad, as far as needs no image. */
+static bool is_bad(const input *in)
+{
+    const mop_load *h = &in->session;
+    if (h->verdict > MOP_LOAD_UNCONFIRMED || h->waiting > 1)
+        return true;
+    if (h->repeats > in->settings.repeats)
+        return true;
+    return h->waiting == 1 && (h->position != 0 || h->sent != 0 ||
+                                  h->repeats != 0 || h->verdict != 0);
+}
+
+/* The header's refusal, in its order. */
+static unsigned wanted(const input *in)
+{
+    const uint32_t size = in->settings.segment_size, r = in->settings.repeats;
+    const mop_load *h = &in->session;
+    if (size < 1 || size > MOP_SEGMENT_MOST || r > MOP_REPEATS_MOST)
+        return MOP_REFUSED_RANGE;
+    if (is_bad(in))
+        return MOP_REFUSED_RANGE;
+    if (in->room < MOP_FRAME_MOST)
+        return MOP_REFUSED_ROOM;
+    const mop_image image = mop_image_check(in->file, in->file_length, size);
+    const uint64_t n = image.segments;
+    if (image.refusal != MOP_ACCEPTED)
+        return image.refusal;
+    if (h->position > n || h->sent > n * (r + 1))
+        return MOP_REFUSED_RANGE;
+    if ((h->verdict == MOP_LOAD_FINISHED) != (h->position == n))
+        return MOP_REFUSED_RANGE;
+    return is_timer(in) ? MOP_ACCEPTED
+                        : mop_read(in->frame, in->frame_length).refusal;
+}
+
+#ifdef MOP_UPDATE
+/* The record stands between guards too. */
+static mop_load_step update(const input *in)
+{
+    mop_load_step step;
+    const mop_written answer =
+        mop_load_update((mop_load *)(void *)lent_bytes(&record), in->settings,
+            in->timer, lent_in(&file), in->file_length, lent_in(&frame),
+            in->frame_length, lent_out(&reply), in->room);
+    memcpy(&step.session, lent_bytes(&record), sizeof step.session);
+    step.answer = answer;
+    demand(lent_same_from(&record, sizeof step.session),
+        "a red zone of the record");
+    return step;
+}
+#endif
+
+static mop_load_step make_call(const input *in)
+{
+    calling(in->call);
+#ifdef MOP_UPDATE
+    if (in->call == LOAD_UPDATE)
+        return update(in);
+#endif
+    if (in->call == LOAD_TIMER)
+        return mop_load_timer(in->settings, in->session, lent_in(&file),
+            in->file_length, lent_out(&reply), in->room);
+    return mop_load_frame(in->settings, in->session, lent_in(&file),
+        in->file_length, lent_in(&frame), in->frame_length, lent_out(&reply),
+        in->room);
+}
+
+static bool same(mop_load a, mop_load b)
+{
+    return a.position == b.position && a.sent == b.sent &&
+           a.repeats == b.repeats && a.waiting == b.waiting &&
+           a.verdict == b.verdict;
+}
+
+static void check_answer(const input *in, unsigned refusal, mop_load_step step)
+{
+    demand(step.answer.refusal == refusal, "not the header's refusal");
+    demand(step.answer.length <= MOP_FRAME_MOST, "longer than a frame");
+    demand(lent_same_from(&reply, step.answer.length),
+        "bytes behind the frame, or of a refused call, changed");
+    if (refusal != MOP_ACCEPTED || in->session.verdict != MOP_LOAD_RUNNING) {
+        demand(step.answer.length == 0, "a frame that should not go out");
+        demand(same(step.session, in->session), "the record changed");
+    }
+    if (step.answer.length > 0) {
+        const mop_frame f = mop_read(lent_bytes(&reply), step.answer.length);
+        demand(
+            f.refusal == MOP_ACCEPTED &&
+                (f.code == MOP_CODE_LOAD || f.code == MOP_CODE_LOAD_TRANSFER),
+            "a frame that is no load");
+        demand(f.number == (uint8_t)step.session.position, "another number");
+        demand(step.session.sent == in->session.sent + 1, "another count");
+    }
+}
+
+/* The call on both sides; what it gives. */
+static mop_load_step check_call(const input *in)
+{
+    static uint8_t clear[BEYOND];
+    mop_load_step steps[2];
+    const unsigned refusal = wanted(in);
+    random_bytes(clear, in->room);
+    for (int s = BEHIND; s <= BEFORE; s++) {
+        const enum side side = (enum side)s;
+        lent_place(
+            &record, side, (const uint8_t *)&in->session, sizeof in->session);
+        lent_place(&file, side, in->file, in->file_length);
+        lent_place(&frame, side, in->frame, in->frame_length);
+        lent_place(&reply, side, clear, in->room);
+        steps[s] = make_call(in);
+        called(steps[s].answer.refusal);
+        check_answer(in, refusal, steps[s]);
+    }
+    demand(same(steps[0].session, steps[1].session) &&
+               steps[0].answer.length == steps[1].answer.length,
+        "two answers to one call");
+    return steps[0];
+}
+
+/* The same input by value and in place: the same answer. */
+static void check_calls(input *in)
+{
+    in->call = once_in(3) ? LOAD_TIMER : LOAD_FRAME;
+    const mop_load_step by_value = check_call(in);
+#ifdef MOP_UPDATE
+    in->timer = (uint8_t)(in->call == LOAD_TIMER ? 1 + below(255) : 0);
+    in->call = LOAD_UPDATE;
+    const mop_load_step in_place = check_call(in);
+    demand(same(by_value.session, in_place.session) &&
+               by_value.answer.length == in_place.answer.length,
+        "in place is not as by value");
+#else
+    (void)by_value;
+#endif
+}
+
+/* Settings, mostly good. */
+static void any_settings(input *in)
+{
+    in->settings.segment_size =
+        (uint32_t)(once_in(8) ? hostile() : 1 + below(once_in(2) ? 8 : 1490));
+    in->settings.repeats = (uint32_t)(once_in(8) ? hostile() : below(256));
+    in->room = any_room();
+}
+
+/* A record for n segments, mostly good; the padding is anything. */
+static void any_record(input *in, uint64_t n)
+{
+    mop_load *h = &in->session;
+    const uint64_t r = (uint64_t)in->settings.repeats + 1;
+    random_bytes((uint8_t *)h, sizeof *h);
+    h->waiting = (uint8_t)(once_in(8) ? hostile() : 0);
+    h->verdict = (uint8_t)(once_in(4) ? below(6) : 0);
+    h->position = h->verdict == MOP_LOAD_FINISHED ? n : below(n + 1);
+    h->repeats = (uint32_t)below(r);
+    h->sent = n == 0 ? 0 : below(n * r + 1);
+    if (once_in(8))
+        h->position = hostile();
+    if (once_in(8))
+        h->repeats = (uint32_t)hostile();
+    if (once_in(8))
+        h->sent = hostile();
+    if (once_in(4)) {
+        calling(LOAD_START);
+        *h = mop_load_start();
+        called(0);
+        demand(same(*h, (mop_load){.waiting = 1}), "another start");
+    }
+}
+
+/* A frame, often one that the load goes on with. */
+static void any_load_frame(input *in)
+{
+    in->frame_length = any_frame(in->frame);
+    if (once_in(3))
+        return;
+    const bool waits = in->session.waiting == 1;
+    in->frame_length = make_frame(waits ? 8 : 10, in->frame);
+    if (waits && !once_in(4))
+        in->frame[3] = MOP_PROGRAM_SYSTEM;
+    if (!waits) {
+        in->frame[1] = (uint8_t)(in->session.position + 1 - once_in(8));
+        in->frame[2] = (uint8_t)(once_in(4) ? hostile() : 0);
+    }
+}
+
+static void check_any(input *in)
+{
+    any_settings(in);
+    const mop_image image =
+        mop_image_check(in->file, in->file_length, in->settings.segment_size);
+    any_record(in, image.segments);
+    any_load_frame(in);
+    check_calls(in);
+}
+
+void test_load(void)
+{
+    static input in;
+    record = lent_make(sizeof(mop_load));
+    file = lent_make(IMAGE_MOST);
+    frame = lent_make(BEYOND);
+    reply = lent_make(BEYOND);
+    for (size_t length = 0; length < BEYOND; length += stride())
+        for (int i = 0; i < 16; i++) {
+            in.file_length = make_image(in.file);
+            any_settings(&in);
+            any_record(&in, 1);
+            in.frame_length = length;
+            random_bytes(in.frame, length);
+            in.frame[0] = codes[below(CODES)];
+            check_calls(&in);
+            in.file_length = length;
+            check_any(&in);
+        }
+    for (unsigned i = 0; i < cases(150000); i++) {
+        in.file_length = once_in(8) ? any_image(in.file) : make_image(in.file);
+        check_any(&in);
+    }
+}

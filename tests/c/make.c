@@ -1,0 +1,201 @@
+#include "make.h"
+
+#include <string.h>
+
+#include "check.h"
+
+const uint8_t codes[CODES] = {0, 1, 2, 3, 4, 8, 10, 12, 14, 20, 24, 26};
+
+size_t least_length(uint8_t code)
+{
+    static const uint8_t least[27] = {[0] = 10,
+        [1] = 1,
+        [2] = 6,
+        [3] = 1,
+        [4] = 7,
+        [8] = 6,
+        [10] = 3,
+        [12] = 8,
+        [14] = 5,
+        [20] = 7,
+        [24] = 3,
+        [26] = 3};
+    return code < sizeof least ? least[code] : 0;
+}
+
+bool is_exact(uint8_t code)
+{
+    return code == 1 || code == 3 || code == 4 || code == 10;
+}
+
+bool is_form(uint8_t form)
+{
+    return form <= 16 || form >= 254;
+}
+
+size_t id_bytes(uint8_t form)
+{
+    return form <= 16 ? form : 0;
+}
+
+void put32(uint8_t *to, uint64_t number)
+{
+    for (int i = 0; i < 4; i++)
+        to[i] = (uint8_t)(number >> 8 * i);
+}
+
+/* ---- Entries. */
+
+static const uint8_t time_least[8] = {0, 0, 1, 1, 0, 0, 0, 0};
+static const uint8_t time_most[8] = {127, 100, 12, 31, 23, 59, 59, 99};
+
+static bool good_time(const uint8_t time[10])
+{
+    const int hours = (int8_t)time[8], minutes = (int8_t)time[9];
+    for (int i = 0; i < 8; i++)
+        if (time[i] < time_least[i] || time[i] > time_most[i])
+            return false;
+    if (hours < -12 || hours > 13 || minutes < -59 || minutes > 59)
+        return false;
+    return !(hours < 0 && minutes > 0) && !(hours > 0 && minutes < 0);
+}
+
+static bool good_entry(uint8_t type, uint8_t length)
+{
+    if (type == 1 || type == 3)
+        return length <= 16;
+    if (type == 2 || type == 4)
+        return length <= 6;
+    return type == 5 && length == 10;
+}
+
+bool good_entries(const uint8_t *entries, size_t length)
+{
+    size_t at = 0;
+    while (at < length) {
+        if (length - at < 2 || !good_entry(entries[at], entries[at + 1]))
+            return false;
+        if (length - at - 2 < entries[at + 1])
+            return false;
+        if (entries[at] == 5 && !good_time(entries + at + 2))
+            return false;
+        at += 2 + (size_t)entries[at + 1];
+    }
+    return true;
+}
+
+static void make_time(uint8_t time[10])
+{
+    const int hours = (int)below(26) - 12, minutes = (int)below(60);
+    for (int i = 0; i < 8; i++)
+        time[i] = (uint8_t)(time_least[i] +
+                            below((uint64_t)time_most[i] - time_least[i] + 1));
+    time[8] = (uint8_t)hours;
+    time[9] = (uint8_t)(hours < 0 ? -minutes : minutes);
+}
+
+size_t make_entries(uint8_t *to, size_t most)
+{
+    const bool full = once_in(3);
+    size_t length = 0;
+    while (most - length >= 18 && (full || !once_in(6))) {
+        uint8_t *entry = to + length;
+        entry[0] = (uint8_t)(1 + below(5));
+        entry[1] = (uint8_t)(entry[0] == 5       ? 10
+                             : entry[0] % 2 == 1 ? below(17)
+                                                 : below(7));
+        random_bytes(entry + 2, entry[1]);
+        if (entry[0] == 5)
+            make_time(entry + 2);
+        length += 2 + (size_t)entry[1];
+    }
+    return length;
+}
+
+/* ---- Frames. */
+
+static size_t make_request_program(uint8_t *to, size_t info)
+{
+    static const uint8_t forms[] = {0, 1, 2, 15, 16, 254, 255};
+    const uint8_t form = forms[below(sizeof forms)];
+    random_bytes(to, 6 + id_bytes(form) + info);
+    to[3] = (uint8_t)below(3);
+    to[4] = form;
+    return 6 + id_bytes(form) + info;
+}
+
+size_t make_frame(uint8_t code, uint8_t to[BEYOND])
+{
+    const size_t more = once_in(8) ? below(1400) : below(40);
+    size_t length = least_length(code) + (is_exact(code) ? 0 : more);
+    random_bytes(to, length);
+    if (code == 8)
+        length = make_request_program(to, more);
+    if (code == 20) {
+        length = 7 + make_entries(to + 2, more);
+        to[length - 5] = 0;
+        random_bytes(to + length - 4, 4);
+    }
+    to[0] = code;
+    return length;
+}
+
+size_t any_frame(uint8_t to[BEYOND])
+{
+    size_t length = make_frame(codes[below(CODES)], to);
+    if (once_in(4))
+        to[below(length)] = (uint8_t)hostile();
+    if (once_in(8))
+        length = below(length + 1);
+    if (once_in(8)) {
+        const size_t more = below(BEYOND - length);
+        random_bytes(to + length, more);
+        length += more;
+    }
+    return length;
+}
+
+/* ---- Image files: the regions' bytes, the directory, the trailer. */
+
+size_t make_image(uint8_t to[IMAGE_MOST])
+{
+    const size_t regions = once_in(8) ? 1 + below(64) : 1 + below(3);
+    const size_t most = 2048 / regions;
+    uint8_t directory[64 * 12] = {0};
+    size_t bytes = 0;
+    uint64_t address = once_in(4) ? UINT32_MAX - 200000 : below(300);
+    for (size_t i = 0; i < regions; i++) {
+        const size_t length = 1 + below(once_in(4) ? most : 8);
+        put32(directory + 12 * i, address);
+        put32(directory + 12 * i + 4, bytes);
+        put32(directory + 12 * i + 8, length);
+        address += length + (once_in(2) ? below(100) : 0);
+        bytes += length;
+    }
+    random_bytes(to, bytes);
+    memcpy(to + bytes, directory, 12 * regions);
+    uint8_t *trailer = to + bytes + 12 * regions;
+    put32(trailer, bytes);
+    put32(trailer + 4, regions);
+    put32(trailer + 8, random_any());
+    put32(trailer + 12, bytes + 12 * regions + 16);
+    return bytes + 12 * regions + 16;
+}
+
+size_t any_image(uint8_t to[IMAGE_MOST])
+{
+    size_t length = make_image(to);
+    if (once_in(2))
+        return length;
+    if (once_in(2)) { /* a number of the directory or the trailer */
+        const size_t places = to[length - 12] * 3U + 4;
+        put32(to + length - 4 * (1 + below(places)), hostile());
+    }
+    if (once_in(4))
+        to[below(length)] ^= (uint8_t)(1U << below(8));
+    if (once_in(6))
+        length = below(length + 1);
+    if (once_in(6))
+        length = below(IMAGE_MOST);
+    return length;
+}

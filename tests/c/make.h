@@ -1,0 +1,40 @@
+/* Frames and image files for the test, good and bad, made without the
+ * library. */
+#ifndef MAKE_H
+#define MAKE_H
+
+#include <stdbool.h>
+#include <stddef.h>
+#include <stdint.h>
+
+/* Beyond the longest frame, and the longest file that is made here. */
+enum { BEYOND = 1600, IMAGE_MOST = 4096 };
+
+/* The listed codes, and the least length of a code's frame, 0 if not listed. */
+enum { CODES = 12 };
+extern const uint8_t codes[CODES];
+size_t least_length(uint8_t code);
+/* Whether the code's frame has its least length only. */
+bool is_exact(uint8_t code);
+
+/* How many bytes an id has that goes with this form. */
+size_t id_bytes(uint8_t form);
+bool is_form(uint8_t form);
+
+/* Whether a string of code 20's entries keeps the rules. */
+bool good_entries(const uint8_t *entries, size_t length);
+/* Such a string of at most so many bytes: its length. */
+size_t make_entries(uint8_t *to, size_t most);
+
+/* A good frame of a listed code, and any frame, often a damaged one. */
+size_t make_frame(uint8_t code, uint8_t to[BEYOND]);
+size_t any_frame(uint8_t to[BEYOND]);
+
+/* A good image file, and any file, often a damaged one. */
+size_t make_image(uint8_t to[IMAGE_MOST]);
+size_t any_image(uint8_t to[IMAGE_MOST]);
+
+/* Numbers low byte first. */
+void put32(uint8_t *to, uint64_t number);
+
+#endif

@@ -1,0 +1,135 @@
+/* Wrong calls, to see that the test finds them: WRONG says which. The linker
+ * puts each in the place of the library's (--wrap); tests/c/wrong.sh has the
+ * list. */
+#include "mop.h"
+
+#define WRAP(name) __wrap_##name
+#define REAL(name) __real_##name
+
+mop_frame REAL(mop_read)(const uint8_t *, size_t);
+mop_frame WRAP(mop_read)(const uint8_t *, size_t);
+mop_written REAL(mop_write_loop)(
+    uint16_t, const uint8_t *, size_t, uint8_t *, size_t);
+mop_written WRAP(mop_write_loop)(
+    uint16_t, const uint8_t *, size_t, uint8_t *, size_t);
+mop_image REAL(mop_image_check)(const uint8_t *, size_t, uint32_t);
+mop_image WRAP(mop_image_check)(const uint8_t *, size_t, uint32_t);
+mop_machine_step REAL(mop_machine_frame)(mop_machine_settings, mop_machine,
+    const uint8_t *, size_t, uint8_t *, size_t, uint8_t *, size_t);
+mop_machine_step WRAP(mop_machine_frame)(mop_machine_settings, mop_machine,
+    const uint8_t *, size_t, uint8_t *, size_t, uint8_t *, size_t);
+mop_load_step REAL(mop_load_timer)(
+    mop_load_settings, mop_load, const uint8_t *, size_t, uint8_t *, size_t);
+mop_load_step WRAP(mop_load_timer)(
+    mop_load_settings, mop_load, const uint8_t *, size_t, uint8_t *, size_t);
+mop_dump_step REAL(mop_dump_frame)(mop_dump_settings, mop_dump, const uint8_t *,
+    size_t, uint8_t *, size_t, uint8_t *, size_t);
+mop_dump_step WRAP(mop_dump_frame)(mop_dump_settings, mop_dump, const uint8_t *,
+    size_t, uint8_t *, size_t, uint8_t *, size_t);
+
+#if WRONG == 1 /* looks at the byte behind the frame */
+mop_frame WRAP(mop_read)(const uint8_t *frame, size_t length)
+{
+    (void)*(volatile const uint8_t *)(frame + length);
+    return REAL(mop_read)(frame, length);
+}
+#elif WRONG == 2  /* looks at the byte before the frame */
+mop_frame WRAP(mop_read)(const uint8_t *frame, size_t length)
+{
+    (void)*(volatile const uint8_t *)(frame - 1);
+    return REAL(mop_read)(frame, length);
+}
+#elif WRONG == 3  /* gives a refused frame's code */
+mop_frame WRAP(mop_read)(const uint8_t *frame, size_t length)
+{
+    mop_frame f = REAL(mop_read)(frame, length);
+    f.code = length > 0 ? frame[0] : 0;
+    return f;
+}
+#elif WRONG == 4  /* clears the byte behind what it wrote */
+mop_written WRAP(mop_write_loop)(uint16_t receipt, const uint8_t *data,
+    size_t length, uint8_t *out, size_t room)
+{
+    const mop_written w =
+        REAL(mop_write_loop)(receipt, data, length, out, room);
+    if (w.refusal == 0)
+        out[w.length] = 0;
+    return w;
+}
+#elif WRONG == 5  /* begins to write before it finds the room too short */
+mop_written WRAP(mop_write_loop)(uint16_t receipt, const uint8_t *data,
+    size_t length, uint8_t *out, size_t room)
+{
+    if (room > 0)
+        out[0] = 24;
+    return REAL(mop_write_loop)(receipt, data, length, out, room);
+}
+#elif WRONG == 6  /* changes the data that it is lent to read */
+mop_written WRAP(mop_write_loop)(uint16_t receipt, const uint8_t *data,
+    size_t length, uint8_t *out, size_t room)
+{
+    if (length > 0)
+        ((uint8_t *)(uintptr_t)data)[0] = 0;
+    return REAL(mop_write_loop)(receipt, data, length, out, room);
+}
+#elif WRONG == 7  /* looks at an empty file */
+mop_image WRAP(mop_image_check)(const uint8_t *file, size_t length, uint32_t s)
+{
+    (void)*(volatile const uint8_t *)file;
+    return REAL(mop_image_check)(file, length, s);
+}
+#elif WRONG == 8  /* changes memory and refuses */
+mop_machine_step WRAP(mop_machine_frame)(mop_machine_settings settings,
+    mop_machine machine, const uint8_t *frame, size_t length, uint8_t *memory,
+    size_t size, uint8_t *reply, size_t room)
+{
+    const mop_machine_step step = REAL(mop_machine_frame)(
+        settings, machine, frame, length, memory, size, reply, room);
+    if (step.answer.refusal != 0 && size > 0)
+        memory[size - 1] ^= 1;
+    return step;
+}
+#elif WRONG == 9  /* minds what a state does not use */
+mop_machine_step WRAP(mop_machine_frame)(mop_machine_settings settings,
+    mop_machine machine, const uint8_t *frame, size_t length, uint8_t *memory,
+    size_t size, uint8_t *reply, size_t room)
+{
+    mop_machine_step step = REAL(mop_machine_frame)(
+        settings, machine, frame, length, memory, size, reply, room);
+    if (room < MOP_FRAME_MOST && machine.expected != 0)
+        step.answer.refusal = MOP_REFUSED_RANGE;
+    return step;
+}
+#elif WRONG == 10 /* keeps a count between calls */
+mop_load_step WRAP(mop_load_timer)(mop_load_settings settings, mop_load session,
+    const uint8_t *file, size_t size, uint8_t *reply, size_t room)
+{
+    static unsigned calls;
+    mop_load_step step =
+        REAL(mop_load_timer)(settings, session, file, size, reply, room);
+    step.session.repeats += calls++ % 1000 == 999;
+    return step;
+}
+#elif WRONG == 11 /* refuses in another order: 9 before 10 */
+mop_load_step WRAP(mop_load_timer)(mop_load_settings settings, mop_load session,
+    const uint8_t *file, size_t size, uint8_t *reply, size_t room)
+{
+    mop_load_step step =
+        REAL(mop_load_timer)(settings, session, file, size, reply, room);
+    if (room < MOP_FRAME_MOST)
+        step.answer.refusal = MOP_REFUSED_ROOM;
+    return step;
+}
+#elif WRONG == 12 /* clears the rest of the dump buffer */
+mop_dump_step WRAP(mop_dump_frame)(mop_dump_settings settings, mop_dump session,
+    const uint8_t *frame, size_t length, uint8_t *buffer, size_t size,
+    uint8_t *reply, size_t room)
+{
+    const mop_dump_step step = REAL(mop_dump_frame)(
+        settings, session, frame, length, buffer, size, reply, room);
+    for (uint64_t i = step.session.filled; i < size; i++)
+        if (step.session.filled > session.filled)
+            buffer[i] = 0;
+    return step;
+}
+#endif
