@@ -14,9 +14,9 @@
  *     // Sends a frame to the machine.
  *     void line_send(const uint8_t *frame, size_t length);
  *
- *     // Waits for a frame from the machine: its length, or -1 if the timer
- *     // has run out. It drops a frame of more than room bytes.
- *     int line_wait(uint8_t *frame, size_t room);
+ *     // Waits for a frame from the machine: its length, or 0 if the timer has
+ *     // run out. It drops a frame of more than room bytes.
+ *     size_t line_wait(uint8_t *frame, size_t room);
  *
  * The rest is these two. Each ends with a verdict, or with a refusal below 0
  * if a call was wrong; a frame that is refused is dropped, and the wait goes
@@ -30,19 +30,14 @@
  *         uint8_t frame[MOP_FRAME_MOST], reply[MOP_FRAME_MOST];
  *
  *         while (session.verdict == MOP_LOAD_RUNNING) {
- *             int length = line_wait(frame, sizeof frame);
- *             mop_load_step step;
- *             if (length < 0)
- *                 step = mop_load_timer(settings, session, file, file_length,
- *                     reply, sizeof reply);
- *             else
- *                 step = mop_load_frame(settings, session, file, file_length,
- *                     frame, (size_t)length, reply, sizeof reply);
- *             if (step.answer.refusal >= MOP_REFUSED_FILE)
- *                 return -step.answer.refusal;
- *             session = step.session;
- *             if (step.answer.length > 0)
- *                 line_send(reply, step.answer.length);
+ *             size_t length = line_wait(frame, sizeof frame);
+ *             mop_written answer = mop_load_update(&session, settings,
+ *                 length == 0, file, file_length, frame, length,
+ *                 reply, sizeof reply);
+ *             if (answer.refusal >= MOP_REFUSED_FILE)
+ *                 return -answer.refusal;
+ *             if (answer.length > 0)
+ *                 line_send(reply, answer.length);
  *         }
  *         return session.verdict; // MOP_LOAD_FINISHED: it is in and started
  *     }
@@ -56,20 +51,14 @@
  *         uint8_t frame[MOP_FRAME_MOST], reply[MOP_FRAME_MOST];
  *
  *         while (session.verdict == MOP_DUMP_RUNNING) {
- *             int length = line_wait(frame, sizeof frame);
- *             mop_dump_step step;
- *             if (length < 0)
- *                 step = mop_dump_timer(settings, session,
- *                     buffer, buffer_length, reply, sizeof reply);
- *             else
- *                 step = mop_dump_frame(settings, session,
- *                     frame, (size_t)length, buffer, buffer_length,
- *                     reply, sizeof reply);
- *             if (step.answer.refusal >= MOP_REFUSED_FILE)
- *                 return -step.answer.refusal;
- *             session = step.session;
- *             if (step.answer.length > 0)
- *                 line_send(reply, step.answer.length);
+ *             size_t length = line_wait(frame, sizeof frame);
+ *             mop_written answer = mop_dump_update(&session, settings,
+ *                 length == 0, frame, length, buffer, buffer_length,
+ *                 reply, sizeof reply);
+ *             if (answer.refusal >= MOP_REFUSED_FILE)
+ *                 return -answer.refusal;
+ *             if (answer.length > 0)
+ *                 line_send(reply, answer.length);
  *         }
  *         return session.verdict; // MOP_DUMP_FINISHED: the buffer is full
  *     }
@@ -88,17 +77,18 @@
  * caller: any bytes and any numbers are answered.
  *
  * Refusals. Each call answers a refusal, 0 for none. A refusal changes
- * nothing: the answered record is the one that came in, the answered length
- * is 0, and every lent byte is as it was. Where several refusals apply, the
- * first in the order given at the call is answered.
+ * nothing: the record is the one that came in, the answered length is 0, and
+ * every lent byte is as it was. Where several refusals apply, the first in the
+ * order given at the call is answered.
  *
  * Order. In every step: settings, record, lent bytes that stay the same over
  * a session, frame, memory or dump buffer, reply buffer. The two calls that
  * update a record in its place have it first, before the settings.
  *
- * Records. A step takes a session's record by value and answers the next one.
- * Keep it, hand it to the next step, and change nothing in it; the same
- * settings, file, memory, data and buffer go into each step of a session.
+ * Records. A step takes a session's record by value and answers the next one,
+ * or it updates the record where it stands. Hand it to the next step, and
+ * change nothing in it; the same settings, file, memory, data and buffer go
+ * into each step of a session.
  * Once a verdict is not 0, no frame and no timer changes anything or sends
  * anything. A frame that can't be read is refused even then.
  *

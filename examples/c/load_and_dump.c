@@ -92,33 +92,24 @@ static void machine_step(void)
 
 /* ---- The host. */
 
-static mop_load load_step(mop_load session, const uint8_t *file, size_t size)
+static void load_step(mop_load *session, const uint8_t *file, size_t size)
 {
     const mop_load_settings settings = {.segment_size = 64, .repeats = 3};
     uint8_t frame[MOP_FRAME_MOST];
     const size_t length = line_wait(&to_host, frame);
-    const mop_load_step step =
-        length > 0 ? mop_load_frame(settings, session, file, size, frame,
-                         length, reply, sizeof reply)
-                   : mop_load_timer(
-                         settings, session, file, size, reply, sizeof reply);
-    line_send(&to_machine, step.answer);
-    return step.session;
+    line_send(&to_machine, mop_load_update(session, settings, length == 0, file,
+                               size, frame, length, reply, sizeof reply));
 }
 
-static mop_dump dump_step(mop_dump session, uint8_t *buffer, size_t size)
+static void dump_step(mop_dump *session, uint8_t *buffer, size_t size)
 {
     const mop_dump_settings settings = {
         .length = size, .address = 0, .most = 100, .repeats = 3};
     uint8_t frame[MOP_FRAME_MOST];
     const size_t length = line_wait(&to_host, frame);
-    const mop_dump_step step =
-        length > 0 ? mop_dump_frame(settings, session, frame, length, buffer,
-                         size, reply, sizeof reply)
-                   : mop_dump_timer(
-                         settings, session, buffer, size, reply, sizeof reply);
-    line_send(&to_machine, step.answer);
-    return step.session;
+    line_send(
+        &to_machine, mop_dump_update(session, settings, length == 0, frame,
+                         length, buffer, size, reply, sizeof reply));
 }
 
 /* ---- An image file of one region: its bytes, the directory, the trailer. */
@@ -147,7 +138,7 @@ int main(void)
     machine_does(mop_machine_start_load(
         ours, memory, sizeof memory, reply, sizeof reply));
     while (load.verdict == MOP_LOAD_RUNNING) {
-        load = load_step(load, file, sizeof file);
+        load_step(&load, file, sizeof file);
         machine_step();
     }
     printf(
@@ -156,7 +147,7 @@ int main(void)
     machine_does(mop_machine_start_dump(
         ours, memory, sizeof memory, reply, sizeof reply));
     while (dump.verdict == MOP_DUMP_RUNNING) {
-        dump = dump_step(dump, buffer, sizeof buffer);
+        dump_step(&dump, buffer, sizeof buffer);
         machine_step();
     }
     printf(

@@ -64,13 +64,13 @@ static void faulted(int number)
     const char *name = list[current].name;
     if (write(2, text, sizeof text - 1) > 0 && write(2, name, strlen(name)) > 0)
         (void)!write(2, "\n", 1);
-    signal(number, SIG_DFL);
+    (void)signal(number, SIG_DFL);
 }
 
 void calling(enum call call)
 {
     if (total == 0)
-        signal(SIGSEGV, faulted);
+        (void)signal(SIGSEGV, faulted);
     total++;
     current = (sig_atomic_t)call;
 }
@@ -110,13 +110,8 @@ static bool print_call(enum call call)
 bool print_calls(void)
 {
     bool good = true;
-    for (int call = 0; call < CALLS; call++) {
-#ifndef MOP_UPDATE
-        if (call == LOAD_UPDATE || call == DUMP_UPDATE)
-            continue;
-#endif
+    for (int call = 0; call < CALLS; call++)
         good = print_call((enum call)call) && good;
-    }
     printf("guards: %lu calls, %s (seed %llu)\n", total,
         good ? "as they should be" : "FAILED", (unsigned long long)seed);
     return good;
@@ -137,10 +132,10 @@ size_t stride(void)
 
 static uint64_t state;
 
-void random_seed(uint64_t from)
+void random_seed(uint64_t first)
 {
-    seed = from;
-    state = from;
+    seed = first;
+    state = first;
 }
 
 uint64_t random_any(void)

@@ -62,7 +62,7 @@ size_t stride(void);
 
 /* Numbers at random: below a bound; a bit; one near an edge of its type or of
  * the limits of mop.h; fills bytes. */
-void random_seed(uint64_t seed);
+void random_seed(uint64_t first);
 uint64_t random_any(void);
 uint64_t below(uint64_t bound);
 bool once_in(unsigned times);

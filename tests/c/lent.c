@@ -82,6 +82,11 @@ uint8_t *lent_bytes(const lent *buffer)
     return buffer->pages + buffer->at;
 }
 
+const uint8_t *lent_beyond(const lent *buffer)
+{
+    return buffer->view + buffer->room;
+}
+
 uint8_t *lent_out(const lent *buffer)
 {
     return null_this_time(buffer) ? NULL : lent_bytes(buffer);
@@ -125,8 +130,8 @@ static bool faults(const uint8_t *byte, bool write)
     const pid_t child = fork();
     need(child >= 0, "fork");
     if (child == 0) {
-        signal(SIGSEGV, faulted);
-        touch((volatile uint8_t *)(uintptr_t)byte, write);
+        (void)signal(SIGSEGV, faulted);
+        touch((uint8_t *)byte, write);
         _exit(0);
     }
     need(waitpid(child, &status, 0) == child, "waitpid");

@@ -62,30 +62,29 @@ static unsigned wanted(const input *in)
                         : mop_read(in->frame, in->frame_length).refusal;
 }
 
-#ifdef MOP_UPDATE
-/* The record stands between guards too. */
+/* The record stands between guards too. The frame of a timer is not looked
+ * at: it is where no byte may be touched. */
 static mop_load_step update(const input *in)
 {
     mop_load_step step;
+    const uint8_t *from =
+        in->timer == 0 ? lent_in(&frame) : lent_beyond(&frame);
     const mop_written answer =
         mop_load_update((mop_load *)(void *)lent_bytes(&record), in->settings,
-            in->timer, lent_in(&file), in->file_length, lent_in(&frame),
-            in->frame_length, lent_out(&reply), in->room);
+            in->timer, lent_in(&file), in->file_length, from, in->frame_length,
+            lent_out(&reply), in->room);
     memcpy(&step.session, lent_bytes(&record), sizeof step.session);
     step.answer = answer;
     demand(lent_same_from(&record, sizeof step.session),
         "a red zone of the record");
     return step;
 }
-#endif
 
 static mop_load_step make_call(const input *in)
 {
     calling(in->call);
-#ifdef MOP_UPDATE
     if (in->call == LOAD_UPDATE)
         return update(in);
-#endif
     if (in->call == LOAD_TIMER)
         return mop_load_timer(in->settings, in->session, lent_in(&file),
             in->file_length, lent_out(&reply), in->room);
@@ -151,16 +150,12 @@ static void check_calls(input *in)
 {
     in->call = once_in(3) ? LOAD_TIMER : LOAD_FRAME;
     const mop_load_step by_value = check_call(in);
-#ifdef MOP_UPDATE
     in->timer = (uint8_t)(in->call == LOAD_TIMER ? 1 + below(255) : 0);
     in->call = LOAD_UPDATE;
     const mop_load_step in_place = check_call(in);
     demand(same(by_value.session, in_place.session) &&
                by_value.answer.length == in_place.answer.length,
         "in place is not as by value");
-#else
-    (void)by_value;
-#endif
 }
 
 /* Settings, mostly good. */

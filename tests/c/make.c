@@ -49,9 +49,15 @@ void put32(uint8_t *to, uint64_t number)
 static const uint8_t time_least[8] = {0, 0, 1, 1, 0, 0, 0, 0};
 static const uint8_t time_most[8] = {127, 100, 12, 31, 23, 59, 59, 99};
 
+static int twos_complement(uint8_t byte)
+{
+    return byte < 128 ? byte : byte - 256;
+}
+
 static bool good_time(const uint8_t time[10])
 {
-    const int hours = (int8_t)time[8], minutes = (int8_t)time[9];
+    const int hours = twos_complement(time[8]);
+    const int minutes = twos_complement(time[9]);
     for (int i = 0; i < 8; i++)
         if (time[i] < time_least[i] || time[i] > time_most[i])
             return false;

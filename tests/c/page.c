@@ -26,18 +26,18 @@ void line_send(const uint8_t *frame, size_t length)
         sizeof memory, coming, sizeof coming));
 }
 
-int line_wait(uint8_t *frame, size_t room)
+size_t line_wait(uint8_t *frame, size_t room)
 {
     static int waits;
     const size_t length = ++waits % 4 == 0 ? 0 : coming_length;
     coming_length = 0;
     if (length > 0 && length <= room) {
         memcpy(frame, coming, length);
-        return (int)length;
+        return length;
     }
     machine_does(mop_machine_timer(
         ours, machine, memory, sizeof memory, coming, sizeof coming));
-    return -1;
+    return 0;
 }
 
 /* An image of one region of 4,000 bytes at 100. */

@@ -12,10 +12,10 @@ void test_load(void);
 void test_dump(void);
 void test_loop(void);
 
-/* Calls the writer of the code in f with its numbers; the id is code 8's. */
-mop_written write_frame(const mop_frame *f, const uint8_t *data,
-    size_t data_length, const uint8_t *id, size_t id_length, uint8_t *out,
-    size_t out_length);
+/* Calls the writer of the code in f with its numbers and these bytes of data;
+ * the name is code 8's id. */
+mop_written write_frame(const mop_frame *f, const uint8_t *bytes, size_t length,
+    const uint8_t *name, size_t name_length, uint8_t *to, size_t room);
 
 /* Lengths of a reply buffer, on both sides of 1,500. */
 size_t any_room(void);
