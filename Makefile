@@ -55,8 +55,13 @@ bench: $(OUT)/bench
 
 # ---- C.
 
-# The header alone: as C and, where there is a g++, as C++.
-header:
+# The header alone: as C and, where there is a g++, as C++; and its text against the Rattle source.
+$(OUT)/header: tests/header/main.rs
+	@mkdir -p $(OUT)
+	$(RUSTC) --crate-name header -o $@ $<
+
+header: $(OUT)/header
+	@$(OUT)/header
 	@for std in c99 c11 c17; do gcc -std=$$std $(WARN) -fsyntax-only -x c include/mop.h || exit 1; done
 	@command -v g++ >/dev/null || { echo "header: good C; there is no g++ to try it as C++"; exit 0; }; \
 	for std in c++11 c++14 c++17 c++20; do g++ -std=$$std $(WARN) -fsyntax-only -x c++ include/mop.h || exit 1; done; \
