@@ -88,9 +88,9 @@
  * Records. A step takes a session's record by value and answers the next one,
  * or it updates the record where it stands. Hand it to the next step, and
  * change nothing in it; the same settings, file, memory, data and buffer go
- * into each step of a session.
- * Once a verdict is not 0, no frame and no timer changes anything or sends
- * anything. A frame that can't be read is refused even then.
+ * into each step of a session. Once a verdict is not 0, no frame and no timer
+ * changes anything or sends anything; a frame that can't be read is refused
+ * even then.
  *
  * Verdicts. What they say of the machine holds where its end is this library's
  * or does the same, where the line alters no frame and keeps their order (it
@@ -215,7 +215,8 @@ enum mop_load_verdict {
 /* The verdicts of a dump. */
 enum mop_dump_verdict {
     MOP_DUMP_RUNNING = 0,  /* not over: the bytes filled are memory's */
-    MOP_DUMP_FINISHED = 1, /* the buffer is full, and is what memory has */
+    MOP_DUMP_FINISHED = 1, /* the buffer is full: memory's bytes, and 0 for
+                              those beyond its end */
     MOP_DUMP_GIVEN_UP = 3  /* no answer: the bytes filled are memory's */
 };
 
@@ -401,8 +402,8 @@ typedef struct mop_machine_settings {
     uint8_t processor;  /* processor type in its own frames */
 } mop_machine_settings;
 
-/* The machine's record. In a state that is not theirs expected, error and
- * transfer are not looked at; a state that is entered has them 0. */
+/* The machine's record. A number that the state does not use is not looked at;
+ * on entering a state such numbers become 0. */
 typedef struct mop_machine {
     uint32_t transfer; /* Started: the transfer address */
     uint8_t state;     /* MOP_MACHINE_.. */
