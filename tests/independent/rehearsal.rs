@@ -27,6 +27,7 @@ const MACHINE: machine::Settings = machine::Settings {
 };
 
 /// A rehearsal that was run.
+#[derive(Clone)]
 pub struct Rehearsal {
     pub transcript: Vec<u8>,
     /// N, the segments of the image.
@@ -39,13 +40,18 @@ pub struct Rehearsal {
 
 /// All that the program prints for its standard input.
 pub fn rehearse(input: &[u8]) -> Vec<u8> {
-    match run(input) {
+    printed(run(input))
+}
+
+/// A transcript, or the refusal alone.
+pub fn printed(answer: Result<Rehearsal, Refusal>) -> Vec<u8> {
+    match answer {
         Ok(rehearsal) => rehearsal.transcript,
         Err(refusal) => format!("BAD {refusal}\n").into_bytes(),
     }
 }
 
-/// Runs an accepted input.
+/// Runs an input, if it is accepted.
 pub fn run(input: &[u8]) -> Result<Rehearsal, Refusal> {
     let input = Input::read(input).ok_or(MALFORMED)?;
     let image = image::check(&input.file, input.settings.segment_size)?;

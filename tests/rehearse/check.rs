@@ -1,0 +1,272 @@
+//! Runs the program and the plain implementation on the same inputs.
+
+use std::io;
+use std::path::{Path, PathBuf};
+use std::sync::Mutex;
+use std::sync::atomic::{AtomicU64, Ordering};
+use std::time::{Duration, Instant};
+use std::{fs, thread};
+
+use crate::inputs::{self, Input, Wanted};
+use crate::job::End;
+use crate::most::most_printing;
+use crate::program::{Feed, Program};
+use crate::set;
+use crate::tally::Tally;
+use crate::text::commas;
+use mop_plain::rehearsal::{printed, rehearse, run};
+
+const INPUTS_LEAST: u64 = 20_000;
+const THREADS: usize = 2;
+/// Times that the input with the most printing is run.
+const ROUNDS: usize = 9;
+const EXAMPLES: [&str; 6] = ["first", "clean", "lossy", "rejected", "unconfirmed", "long"];
+
+pub struct Check {
+    program: PathBuf,
+    /// For inputs, and those that showed a difference.
+    scratch: PathBuf,
+}
+
+impl Check {
+    pub fn new(program: &Path) -> io::Result<Check> {
+        let own = std::env::current_exe()?;
+        Ok(Check {
+            program: program.canonicalize()?,
+            scratch: own.with_file_name("rehearsal"),
+        })
+    }
+
+    fn program(&self, thread: usize) -> Program {
+        let scratch = self.scratch(&format!("input-{thread}"));
+        Program::new(&self.program, scratch)
+    }
+
+    fn scratch(&self, name: &str) -> PathBuf {
+        self.scratch.with_extension(format!("{name}.txt"))
+    }
+
+    pub fn set_inputs(&self) -> bool {
+        let program = self.program(0);
+        let tally = Mutex::new(Tally::default());
+        for (place, input) in set::cases().iter().enumerate() {
+            let name = format!("set-{place}");
+            self.input(&tally, &program, "set inputs", &name, input, Feed::Pipe);
+        }
+        done("set inputs", &tally)
+    }
+
+    /// The examples, with the outputs that stand beside them.
+    pub fn examples(&self) -> bool {
+        let program = self.program(0);
+        let tally = Mutex::new(Tally::default());
+        for name in EXAMPLES {
+            match example(name) {
+                Ok(input) => self.input(&tally, &program, "examples", name, &input, Feed::File),
+                Err(error) => {
+                    println!("DIFFERENCE: example {name}: {error}");
+                    tally.lock().unwrap().differs();
+                }
+            }
+        }
+        done("examples", &tally)
+    }
+
+    /// The input with the most printing, and how long it takes.
+    pub fn most_printing(&self) -> bool {
+        let job = most_printing();
+        let text = job.text();
+        let printed = rehearse(&text);
+        let wanted = Wanted::Load(Box::new(job), Some(0));
+        let input = Input { text, wanted };
+        let tally = Mutex::new(Tally::default());
+        let program = self.program(0);
+        self.input(
+            &tally,
+            &program,
+            "most printing",
+            "most",
+            &input,
+            Feed::File,
+        );
+        let seen = median(|| drop(program.run(&input.text, Feed::File)));
+        let plain = median(|| drop(rehearse(&input.text)));
+        println!(
+            "rehearse: most printing, {} bytes: {seen:.1?} from start to end, plain {plain:.1?} without a start",
+            commas(printed.len() as u64),
+        );
+        done("most printing", &tally)
+    }
+
+    /// A whole run from one seed, and whether it was as it should be.
+    pub fn run(&self, seed: u64) -> bool {
+        println!("rehearse: seed {seed}");
+        let start = Instant::now();
+        let tally = Mutex::new(Tally::default());
+        let next = AtomicU64::new(0);
+        thread::scope(|scope| {
+            for thread in 0..THREADS {
+                let program = self.program(thread);
+                let (tally, next) = (&tally, &next);
+                scope.spawn(move || self.share(seed, tally, &program, next));
+            }
+        });
+        {
+            let tally = tally.lock().unwrap();
+            tally.print();
+            println!("  {:.1} s", start.elapsed().as_secs_f64());
+            for gap in tally.gaps() {
+                println!("UNEXPECTED {gap}");
+            }
+            if !tally.gaps().is_empty() || tally.inputs < INPUTS_LEAST {
+                println!("rehearse: seed {seed} FAILED, {} inputs", tally.inputs);
+                return false;
+            }
+        }
+        done(&format!("seed {seed}"), &tally)
+    }
+
+    /// One thread's share of a run: whichever input is next.
+    fn share(&self, seed: u64, tally: &Mutex<Tally>, program: &Program, next: &AtomicU64) {
+        loop {
+            let index = next.fetch_add(1, Ordering::Relaxed);
+            if index >= inputs::count() {
+                return;
+            }
+            let (kind, input, mut random) = inputs::input(seed, index);
+            let feed = Feed::any(&mut random);
+            let name = format!("{seed}-{index}");
+            self.input(tally, program, kind, &name, &input, feed);
+        }
+    }
+
+    /// One input, to both.
+    fn input(
+        &self,
+        tally: &Mutex<Tally>,
+        program: &Program,
+        kind: &'static str,
+        name: &str,
+        input: &Input,
+        feed: Feed,
+    ) {
+        let answer = run(&input.text);
+        let printed = printed(answer.clone());
+        let mut faults = Vec::new();
+        if let Err(fault) = input.wanted.judge(&printed) {
+            faults.push(format!("plain implementation against the paper: {fault}"));
+        }
+        match program.run(&input.text, feed) {
+            Err(error) => faults.push(format!("not run: {error}")),
+            Ok((seen, _)) if seen != printed => faults.push(difference(&seen, &printed)),
+            Ok((_, status)) if status.code().is_none() || (answer.is_ok() && !status.success()) => {
+                faults.push(format!("it ended with {status}"));
+            }
+            Ok(_) => {}
+        }
+        let mut tally = tally.lock().unwrap();
+        tally.input(kind, feed.name(), &input.text);
+        tally.answer(&input.text, &printed, answer);
+        if !faults.is_empty() && tally.differs() {
+            let path = self.scratch(&format!("differs-{name}"));
+            let kept = fs::write(&path, &input.text);
+            println!("DIFFERENCE: {kind}, by {}", feed.name());
+            println!(
+                "  input in {} {}",
+                path.display(),
+                kept.map_or("NOT KEPT", |()| "")
+            );
+            for fault in faults {
+                println!("  {fault}");
+            }
+        }
+    }
+}
+
+/// An example; its END line, or the start of it, is told in words.
+fn example(name: &str) -> io::Result<Input> {
+    const TOLD: usize = 36;
+    let text = fs::read(format!("examples/{name}.txt"))?;
+    let printed = fs::read_to_string(format!("examples/{name}.out"))?;
+    let words = fs::read_to_string("examples/README.md")?;
+    let end = printed.lines().last().unwrap_or("none");
+    if !words.contains(&end[..end.len().min(TOLD)]) {
+        return Err(io::Error::other("its END line is not in README.md"));
+    }
+    let wanted = Wanted::Printed(printed.into_bytes());
+    Ok(Input { text, wanted })
+}
+
+impl Wanted {
+    /// The plain implementation's output, held to what is known.
+    fn judge(&self, printed: &[u8]) -> Result<(), String> {
+        match self {
+            Wanted::Agreement => Ok(()),
+            Wanted::Bad(refusal) => same(printed, format!("BAD {refusal}\n").as_bytes()),
+            Wanted::Printed(wanted) => same(printed, wanted),
+            Wanted::Load(job, verdict) => {
+                job.claim(printed)?;
+                let seen = End::read(printed).map(|end| end.verdict);
+                match verdict {
+                    Some(_) if seen != *verdict => Err(format!("{seen:?}, wanted {verdict:?}")),
+                    _ => Ok(()),
+                }
+            }
+        }
+    }
+}
+
+fn same(seen: &[u8], wanted: &[u8]) -> Result<(), String> {
+    match seen == wanted {
+        true => Ok(()),
+        false => Err(difference(seen, wanted)),
+    }
+}
+
+/// The first line that differs.
+fn difference(seen: &[u8], wanted: &[u8]) -> String {
+    let lines = |text: &[u8]| -> Vec<String> {
+        let lines = text.split_inclusive(|&byte| byte == b'\n');
+        lines.map(|line| shown(line)).collect()
+    };
+    let (seen, wanted) = (lines(seen), lines(wanted));
+    let mut place = 0;
+    while seen.get(place) == wanted.get(place) && place < wanted.len() {
+        place += 1;
+    }
+    let line = |lines: &[String]| lines.get(place).cloned().unwrap_or("nothing".to_string());
+    let (seen, wanted) = (line(&seen), line(&wanted));
+    format!("line {}: seen {seen}, wanted {wanted}", place + 1)
+}
+
+/// A line, a long one by its start and its length.
+fn shown(line: &[u8]) -> String {
+    const START: usize = 100;
+    let start = line[..line.len().min(START)].escape_ascii();
+    match line.len() > START {
+        true => format!("\"{start}..\" ({} bytes)", line.len()),
+        false => format!("\"{start}\""),
+    }
+}
+
+/// The last line of a part: whether it went well.
+fn done(what: &str, tally: &Mutex<Tally>) -> bool {
+    let tally = tally.lock().unwrap();
+    println!(
+        "rehearse: {what}: {} inputs, {} differences",
+        commas(tally.inputs),
+        commas(tally.differences)
+    );
+    tally.differences == 0
+}
+
+fn median(mut work: impl FnMut()) -> Duration {
+    let mut times = [Duration::ZERO; ROUNDS];
+    for time in &mut times {
+        let start = Instant::now();
+        work();
+        *time = start.elapsed();
+    }
+    times.sort();
+    times[ROUNDS / 2]
+}
