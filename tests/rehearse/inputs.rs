@@ -98,8 +98,8 @@ pub fn count() -> u64 {
 /// Input number `index` of the run with this seed, and the numbers to run it
 /// with.
 pub fn input(seed: u64, index: u64) -> (&'static str, Input, Random) {
-    let start = Random::new(seed.wrapping_add(index)).u64();
-    let mut random = Random::new(start);
+    let start = Random::new(seed).u64().wrapping_add(index);
+    let mut random = Random::new(Random::new(start).u64());
     let mut place = index;
     for kind in &KINDS {
         if place < kind.times {
