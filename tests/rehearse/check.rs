@@ -53,7 +53,7 @@ impl Check {
             let name = format!("set-{place}");
             self.input(&tally, &program, "set inputs", &name, input, Feed::Pipe);
         }
-        done("set inputs", &tally)
+        done("set inputs", &tally.into_inner().unwrap())
     }
 
     /// The examples, with the outputs that stand beside them.
@@ -69,33 +69,25 @@ impl Check {
                 }
             }
         }
-        done("examples", &tally)
+        done("examples", &tally.into_inner().unwrap())
     }
 
     /// The input with the most printing, and how long it takes.
     pub fn most_printing(&self) -> bool {
         let job = most_printing();
         let text = job.text();
-        let printed = rehearse(&text);
         let wanted = Wanted::Load(Box::new(job), Some(0));
         let input = Input { text, wanted };
         let tally = Mutex::new(Tally::default());
         let program = self.program(0);
-        self.input(
-            &tally,
-            &program,
-            "most printing",
-            "most",
-            &input,
-            Feed::File,
-        );
+        let kind = "most printing";
+        self.input(&tally, &program, kind, "most", &input, Feed::File);
         let seen = median(|| drop(program.run(&input.text, Feed::File)));
         let plain = median(|| drop(rehearse(&input.text)));
-        println!(
-            "rehearse: most printing, {} bytes: {seen:.1?} from start to end, plain {plain:.1?} without a start",
-            commas(printed.len() as u64),
-        );
-        done("most printing", &tally)
+        let length = commas(rehearse(&input.text).len() as u64);
+        println!("rehearse: most printing is {length} bytes:");
+        println!("  {seen:.1?} from start to end, plain {plain:.1?} without the start");
+        done(kind, &tally.into_inner().unwrap())
     }
 
     /// A whole run from one seed, and whether it was as it should be.
@@ -111,19 +103,18 @@ impl Check {
                 scope.spawn(move || self.share(seed, tally, &program, next));
             }
         });
-        {
-            let tally = tally.lock().unwrap();
-            tally.print();
-            println!("  {:.1} s", start.elapsed().as_secs_f64());
-            for gap in tally.gaps() {
-                println!("UNEXPECTED {gap}");
-            }
-            if !tally.gaps().is_empty() || tally.inputs < INPUTS_LEAST {
-                println!("rehearse: seed {seed} FAILED, {} inputs", tally.inputs);
-                return false;
-            }
+        let tally = tally.into_inner().unwrap();
+        tally.print();
+        println!("  {:.1} s", start.elapsed().as_secs_f64());
+        let gaps = tally.gaps();
+        for gap in &gaps {
+            println!("UNEXPECTED {gap}");
         }
-        done(&format!("seed {seed}"), &tally)
+        let enough = tally.inputs >= INPUTS_LEAST;
+        if !enough {
+            println!("TOO FEW inputs");
+        }
+        done(&format!("seed {seed}"), &tally) && gaps.is_empty() && enough
     }
 
     /// One thread's share of a run: whichever input is next.
@@ -249,9 +240,8 @@ fn shown(line: &[u8]) -> String {
     }
 }
 
-/// The last line of a part: whether it went well.
-fn done(what: &str, tally: &Mutex<Tally>) -> bool {
-    let tally = tally.lock().unwrap();
+/// The last line of a part: whether both printed the same.
+fn done(what: &str, tally: &Tally) -> bool {
     println!(
         "rehearse: {what}: {} inputs, {} differences",
         commas(tally.inputs),

@@ -115,7 +115,42 @@ pub fn cases() -> Vec<Input> {
     };
     let mut cases: Vec<Input> = CASES.iter().map(case).collect();
     cases.extend(longest());
+    cases.extend([14, 15].map(requests));
+    cases.extend([14, 15].map(segments));
     cases
+}
+
+/// So many more requests than the first, then a reply, which finds the 16th
+/// place or none; then all is handed over.
+fn requests(more: usize) -> Input {
+    let letters = "n".repeat(more) + "uh" + &"t".repeat(17);
+    let next = match more {
+        14 => "H 0001040000000C02000000\nEND 0 2 - 00000A0B00\n",
+        _ => "END 0 1 - 00000A0B00\n",
+    };
+    let first = "T 08000102FF00\n".repeat(1 + more);
+    let printed = first + "H 0200020000000A0B\nT 0A0100\n" + next;
+    Input {
+        text: format!("5 2 0\n{IMAGE}\n{letters}\n").into_bytes(),
+        wanted: Wanted::Printed(printed.into_bytes()),
+    }
+}
+
+/// So many repeats of the first segment, then the second one, which finds the
+/// 16th place or none; then all is handed over.
+fn segments(repeats: usize) -> Input {
+    let letters = "t".to_string() + &"m".repeat(repeats) + "kt" + &"h".repeat(17);
+    let rest = match repeats {
+        14 => "T 0A0100\n".repeat(15) + "T 0A0200\nEND 0 16 00000002 00000A0B0C\n",
+        _ => "T 0A0100\n".repeat(16) + "END 0 17 - 00000A0B00\n",
+    };
+    let first = "H 0200020000000A0B\n".repeat(1 + repeats);
+    let second = "T 0A0100\nH 0001040000000C02000000\n";
+    let printed = "T 08000102FF00\n".to_string() + &first + second + &rest;
+    Input {
+        text: format!("5 2 255\n{IMAGE}\n{letters}\n").into_bytes(),
+        wanted: Wanted::Printed(printed.into_bytes()),
+    }
 }
 
 /// 8,192 bytes pass and 8,193 do not.
