@@ -1,9 +1,9 @@
 //! Inputs of the right form with a bad image.
 
 use crate::file::{Region, build};
-use crate::inputs::{Input, Wanted};
+use crate::inputs::Input;
 use crate::job::Job;
-use crate::loads::small;
+use crate::loads::{ladder, small};
 use crate::random::Random;
 
 // Places in the trailer.
@@ -97,16 +97,6 @@ pub fn bad_directory(random: &mut Random) -> Input {
     refused(&job, &file, 6)
 }
 
-/// So many good regions.
-fn ladder(count: u32) -> Vec<Region> {
-    let region = |address| Region {
-        address,
-        offset: 0,
-        length: 1,
-    };
-    (0..count).map(region).collect()
-}
-
 /// An entry that breaks its own rule.
 pub fn bad_entry(random: &mut Random) -> Input {
     let mut job = with_events(random);
@@ -179,16 +169,4 @@ pub fn cut_or_extended(random: &mut Random) -> Input {
         mend_length(&mut file);
     }
     Input::agreed(job.with_file(&file).text())
-}
-
-/// From 60 to 64 regions: all that a directory may have.
-pub fn many_regions(random: &mut Random) -> Input {
-    let mut job = small(random);
-    job.regions = ladder(random.range(60, 64) as u32);
-    job.memory = random.range(55, 70);
-    job.events = b"tht".repeat(random.range(0, 70));
-    Input {
-        text: job.text(),
-        wanted: Wanted::Load(Box::new(job), None),
-    }
 }

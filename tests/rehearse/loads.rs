@@ -69,6 +69,16 @@ pub fn small(random: &mut Random) -> Job {
     }
 }
 
+/// So many regions of the same byte, one after the other.
+pub fn ladder(count: u32) -> Vec<Region> {
+    let region = |address| Region {
+        address,
+        offset: 0,
+        length: 1,
+    };
+    (0..count).map(region).collect()
+}
+
 /// One region in so many segments of one to three bytes, which all fit.
 fn many(random: &mut Random, count: usize) -> Job {
     let size = random.range(1, 3);
@@ -315,6 +325,15 @@ pub fn large_frames(random: &mut Random) -> Input {
     let count = random.range(0, 60);
     job.events = clean_events(random.range(0, 3));
     job.events.extend(letters(random, mix, count));
+    load(job, None)
+}
+
+/// From 60 to 64 regions: all that a directory may have.
+pub fn many_regions(random: &mut Random) -> Input {
+    let mut job = small(random);
+    job.regions = ladder(random.range(60, 64) as u32);
+    job.memory = random.range(55, 70);
+    job.events = b"tht".repeat(random.range(0, 70));
     load(job, None)
 }
 
