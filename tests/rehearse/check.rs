@@ -9,7 +9,7 @@ use std::{fs, thread};
 
 use crate::inputs::{self, Input, Wanted};
 use crate::job::End;
-use crate::most::most_printing;
+use crate::most::{most_printing, most_work};
 use crate::program::{Feed, Program};
 use crate::set;
 use crate::tally::Tally;
@@ -18,32 +18,43 @@ use mop_plain::rehearsal::{printed, rehearse, run};
 
 const INPUTS_LEAST: u64 = 20_000;
 const THREADS: usize = 2;
-/// Times that the input with the most printing is run.
-const ROUNDS: usize = 9;
+/// Turns that each program gets where its time is taken.
+const ROUNDS: usize = 21;
 const EXAMPLES: [&str; 6] = ["first", "clean", "lossy", "rejected", "unconfirmed", "long"];
 
 pub struct Check {
     program: PathBuf,
-    /// For inputs, and those that showed a difference.
-    scratch: PathBuf,
+    /// This program, which is the plain implementation too.
+    own: PathBuf,
 }
 
 impl Check {
     pub fn new(program: &Path) -> io::Result<Check> {
-        let own = std::env::current_exe()?;
         Ok(Check {
             program: program.canonicalize()?,
-            scratch: own.with_file_name("rehearsal"),
+            own: std::env::current_exe()?,
         })
     }
 
     fn program(&self, thread: usize) -> Program {
-        let scratch = self.scratch(&format!("input-{thread}"));
-        Program::new(&self.program, scratch)
+        Program {
+            path: self.program.clone(),
+            arguments: &[],
+            scratch: self.scratch(&format!("input-{thread}")),
+        }
     }
 
+    fn plain(&self) -> Program {
+        Program {
+            path: self.own.clone(),
+            arguments: &["plain"],
+            scratch: self.scratch("input-plain"),
+        }
+    }
+
+    /// A file for an input.
     fn scratch(&self, name: &str) -> PathBuf {
-        self.scratch.with_extension(format!("{name}.txt"))
+        self.own.with_file_name(format!("rehearsal-{name}.txt"))
     }
 
     pub fn set_inputs(&self) -> bool {
@@ -72,22 +83,24 @@ impl Check {
         done("examples", &tally.into_inner().unwrap())
     }
 
-    /// The input with the most printing, and how long it takes.
-    pub fn most_printing(&self) -> bool {
-        let job = most_printing();
-        let text = job.text();
-        let wanted = Wanted::Load(Box::new(job), Some(0));
-        let input = Input { text, wanted };
+    /// The inputs with the most printing and the most work, and how long both
+    /// implementations take from their start to their end.
+    pub fn extremes(&self) -> bool {
         let tally = Mutex::new(Tally::default());
-        let program = self.program(0);
-        let kind = "most printing";
-        self.input(&tally, &program, kind, "most", &input, Feed::File);
-        let seen = median(|| drop(program.run(&input.text, Feed::File)));
-        let plain = median(|| drop(rehearse(&input.text)));
-        let length = commas(rehearse(&input.text).len() as u64);
-        println!("rehearse: most printing is {length} bytes:");
-        println!("  {seen:.1?} from start to end, plain {plain:.1?} without the start");
-        done(kind, &tally.into_inner().unwrap())
+        let (program, plain) = (self.program(0), self.plain());
+        for (name, job, verdict) in [
+            ("most printing", most_printing(), 0),
+            ("most work", most_work(), 1),
+        ] {
+            let text = job.text();
+            let wanted = Wanted::Load(Box::new(job), Some(verdict));
+            let input = Input { text, wanted };
+            self.input(&tally, &program, name, "extreme", &input, Feed::File);
+            let [seen, plain] = medians([&program, &plain], &input.text);
+            let length = commas(rehearse(&input.text).len() as u64);
+            println!("rehearse: {name}: {length} bytes, {seen:.1?}, plain {plain:.1?}");
+        }
+        done("extremes", &tally.into_inner().unwrap())
     }
 
     /// A whole run from one seed, and whether it was as it should be.
@@ -250,13 +263,19 @@ fn done(what: &str, tally: &Tally) -> bool {
     tally.differences == 0
 }
 
-fn median(mut work: impl FnMut()) -> Duration {
-    let mut times = [Duration::ZERO; ROUNDS];
-    for time in &mut times {
-        let start = Instant::now();
-        work();
-        *time = start.elapsed();
+/// The median time of two programs that take turns.
+fn medians(programs: [&Program; 2], input: &[u8]) -> [Duration; 2] {
+    let mut times = [[Duration::ZERO; ROUNDS]; 2];
+    for round in 0..ROUNDS {
+        for (program, times) in programs.iter().zip(&mut times) {
+            let start = Instant::now();
+            // A program that fails here has failed before.
+            let _ = program.run(input, Feed::File);
+            times[round] = start.elapsed();
+        }
     }
-    times.sort();
-    times[ROUNDS / 2]
+    times.map(|mut times| {
+        times.sort();
+        times[ROUNDS / 2]
+    })
 }

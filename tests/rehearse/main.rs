@@ -83,7 +83,7 @@ fn compare(program: &str, seeds: &[u64]) -> ExitCode {
     };
     let mut good = check.set_inputs();
     good &= check.examples();
-    good &= check.most_printing();
+    good &= check.extremes();
     for &seed in seeds {
         good &= check.run(seed);
     }

@@ -1,4 +1,5 @@
-//! The input with the most printing, but for some hundred bytes.
+//! The inputs with the most printing, but for some hundred bytes, and with the
+//! most work.
 //!
 //! A letter prints at most one frame. A segment is printed at most 256 times,
 //! by its first sending and 255 repeats, and every byte of it takes two digits
@@ -16,10 +17,26 @@ const REPEATS: usize = 255;
 const PLACES: usize = 16;
 
 pub fn most_printing() -> Job {
-    let lengths = [LONGEST, LONGEST, MEMORY - 2 * LONGEST, LONGEST];
+    let mut job = shared(&[LONGEST, LONGEST, MEMORY - 2 * LONGEST, LONGEST], LONGEST);
+    job.events = events(job.room(), job.segments());
+    job
+}
+
+/// A whole load of 3,200 segments from 64 regions: each step of the host looks
+/// through the directory.
+pub fn most_work() -> Job {
+    let mut job = shared(&[50; 64], 1);
+    job.events = [b"t", &b"ht".repeat(job.segments())[..]].concat();
+    job
+}
+
+/// Adjacent regions of these lengths over the same bytes, cut into parts of
+/// `size` bytes.
+fn shared(lengths: &[usize], size: usize) -> Job {
+    let longest = lengths.iter().copied().max().unwrap_or(0);
     let mut address = 0;
     let mut regions = Vec::new();
-    for length in lengths {
+    for &length in lengths {
         regions.push(Region {
             address,
             offset: 0,
@@ -27,17 +44,15 @@ pub fn most_printing() -> Job {
         });
         address += length as u32;
     }
-    let mut job = Job {
+    Job {
         memory: MEMORY,
-        size: LONGEST,
+        size,
         repeats: REPEATS,
-        body: (0..LONGEST).map(|place| place as u8).collect(),
+        body: (0..longest).map(|place| place as u8).collect(),
         regions,
         transfer: 2,
         events: Vec::new(),
-    };
-    job.events = events(job.room(), lengths.len());
-    job
+    }
 }
 
 /// Requests first; then each segment as often as it can be sent.

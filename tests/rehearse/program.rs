@@ -2,7 +2,7 @@
 
 use std::fs::{self, File};
 use std::io::{self, ErrorKind, Read, Write, pipe};
-use std::path::{Path, PathBuf};
+use std::path::PathBuf;
 use std::process::{ChildStdin, Command, ExitStatus, Stdio};
 use std::thread::sleep;
 use std::time::Duration;
@@ -39,22 +39,20 @@ impl Feed {
     }
 }
 
-/// The program, with a file for its input that no other thread uses.
+/// A program with its arguments, and a file for its input that no other
+/// thread uses.
 pub struct Program {
-    path: PathBuf,
-    scratch: PathBuf,
+    pub path: PathBuf,
+    pub arguments: &'static [&'static str],
+    pub scratch: PathBuf,
 }
 
 impl Program {
-    pub fn new(path: &Path, scratch: PathBuf) -> Program {
-        let path = path.to_path_buf();
-        Program { path, scratch }
-    }
-
     /// What it prints, messages of error included, and how it ends.
     pub fn run(&self, input: &[u8], feed: Feed) -> io::Result<(Vec<u8>, ExitStatus)> {
         let (mut printed, out) = pipe()?;
         let mut command = Command::new(&self.path);
+        command.args(self.arguments);
         command.stderr(out.try_clone()?).stdout(out);
         match feed {
             Feed::File => {
