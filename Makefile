@@ -8,7 +8,7 @@ OUT     = target/tests
 LIB     = target/staticlib/libmop.a
 FILE   ?= examples/frames.txt
 
-.PHONY: test run lib compare bench needs header layout examples guards sanitize lint
+.PHONY: test run lib compare compare-rehearsal bench needs header layout examples guards sanitize lint
 
 # rt ci begins by removing target/, so it comes first; its last line is repeated at the end where all else passed.
 test: needs
@@ -22,6 +22,9 @@ run: target/bin/frames
 
 target/bin/frames: $(shell find crates -name '*.rt' -o -name '*.antt') crates.txt
 	rt check frames >/dev/null
+
+target/bin/rehearsal: $(shell find crates -name '*.rt' -o -name '*.antt') crates.txt
+	rt check rehearsal >/dev/null
 
 lib: $(LIB)
 
@@ -42,12 +45,21 @@ BOTH = --extern mop_plain=$(OUT)/libmop_plain.rlib --extern mop_proved=$(OUT)/li
 $(OUT)/compare: $(OUT)/libmop_plain.rlib $(OUT)/libmop_proved.rlib $(shell find tests/compare -name '*.rs')
 	$(RUSTC) --crate-name compare $(BOTH) -o $@ tests/compare/main.rs
 
+SHARED = $(addprefix tests/compare/, file.rs random.rs text.rs)
+
+$(OUT)/rehearse: $(OUT)/libmop_plain.rlib $(wildcard tests/rehearse/*.rs) $(SHARED)
+	$(RUSTC) --crate-name rehearse --extern mop_plain=$(OUT)/libmop_plain.rlib -o $@ tests/rehearse/main.rs
+
 $(OUT)/bench: $(OUT)/libmop_plain.rlib $(OUT)/libmop_proved.rlib bench/main.rs
 	$(RUSTC) --crate-name bench $(BOTH) -o $@ bench/main.rs
 
 # The proved library against the independent implementation.
 compare: $(OUT)/compare
 	$(OUT)/compare
+
+# The rehearsal program against the independent implementation: set inputs, the examples, random inputs.
+compare-rehearsal: $(OUT)/rehearse target/bin/rehearsal
+	$(OUT)/rehearse target/bin/rehearsal
 
 # Both implementations' speed, in one run.
 bench: $(OUT)/bench

@@ -1,6 +1,7 @@
 //! Compares the image check and the segments.
 
 use crate::Compare;
+pub use crate::file::{Region, build};
 use crate::random::Random;
 use crate::reading::place;
 use crate::tally::Hex;
@@ -19,36 +20,6 @@ const FILE_LENGTH: usize = 12;
 const ADDRESS: usize = 0;
 const OFFSET: usize = 4;
 const LENGTH: usize = 8;
-
-/// A directory entry, and the file made from some.
-#[derive(Clone, Copy)]
-pub struct Region {
-    pub address: u32,
-    pub offset: u32,
-    pub length: u32,
-}
-
-impl Region {
-    fn end(&self) -> u64 {
-        u64::from(self.address) + u64::from(self.length)
-    }
-}
-
-/// Region bytes, directory, trailer; the count is the number of entries.
-pub fn build(body: &[u8], regions: &[Region], transfer: u32) -> Vec<u8> {
-    let mut file = body.to_vec();
-    for region in regions {
-        for number in [region.address, region.offset, region.length] {
-            file.extend(number.to_le_bytes());
-        }
-    }
-    file.extend((body.len() as u32).to_le_bytes());
-    file.extend((regions.len() as u16).to_le_bytes());
-    file.extend([0, 0]);
-    file.extend(transfer.to_le_bytes());
-    file.extend((file.len() as u32 + 4).to_le_bytes());
-    file
-}
 
 /// Adjacent regions from address 0 on, each made of the same bytes.
 pub fn shared(body: &[u8], count: u32, transfer: u32) -> Vec<u8> {

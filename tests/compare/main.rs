@@ -9,11 +9,13 @@
 
 mod beyond;
 mod ends;
+mod file;
 mod images;
 mod make;
 mod random;
 mod reading;
 mod tally;
+mod text;
 mod writing;
 
 use std::process::ExitCode;

@@ -3,6 +3,8 @@
 use std::collections::BTreeMap;
 use std::fmt::{self, Debug};
 
+pub use crate::text::{Hex, commas};
+
 /// How often each refusal came; at 0, how often none did.
 pub type Refusals = [u64; 11];
 
@@ -217,35 +219,4 @@ fn seen(row: &Refusals) -> String {
     let came = row.iter().enumerate().filter(|&(_, &count)| count > 0);
     came.map(|(answer, &count)| format!("{:>4}:{:>10}", answer, commas(count)))
         .collect()
-}
-
-/// Bytes shown in hexadecimal, a long string by its two ends.
-#[derive(Clone, Copy)]
-pub struct Hex<'a>(pub &'a [u8]);
-
-impl Debug for Hex<'_> {
-    fn fmt(&self, to: &mut fmt::Formatter) -> fmt::Result {
-        const END: usize = 2048;
-        let Hex(bytes) = self;
-        let (first, rest) = bytes.split_at(bytes.len().min(END));
-        let (between, last) = rest.split_at(rest.len().saturating_sub(END));
-        first.iter().try_for_each(|byte| write!(to, "{byte:02X}"))?;
-        if !between.is_empty() {
-            write!(to, " ({} bytes) ", between.len())?;
-        }
-        last.iter().try_for_each(|byte| write!(to, "{byte:02X}"))
-    }
-}
-
-/// A number with a comma at every third digit.
-pub fn commas(number: u64) -> String {
-    let digits = number.to_string();
-    let mut text = String::new();
-    for (place, digit) in digits.chars().enumerate() {
-        if place > 0 && (digits.len() - place).is_multiple_of(3) {
-            text.push(',');
-        }
-        text.push(digit);
-    }
-    text
 }

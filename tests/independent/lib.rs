@@ -1,8 +1,8 @@
 //! The maintenance operation protocol in plain Rust, written from paper 01
 //! and DEC's document 3.0.0 alone, to compare the proved library with.
 //!
-//! Nothing here allocates: what is read borrows from the bytes that were
-//! given, and a writer fills the buffer that was lent.
+//! Nothing but the rehearsal allocates: what is read borrows from the bytes
+//! that were given, and a writer fills the buffer that was lent.
 
 #![forbid(unsafe_code)]
 
@@ -15,4 +15,5 @@ pub mod load;
 pub mod looping;
 pub mod machine;
 pub mod refusal;
+pub mod rehearsal;
 pub mod step;

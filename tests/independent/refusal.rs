@@ -28,3 +28,5 @@ pub const SMALL_BUFFER: Refusal = 9;
 pub const BAD_SETTING: Refusal = 10;
 /// A record or state that cannot be.
 pub const BAD_RECORD: Refusal = 10;
+/// An input of the rehearsal is malformed or too long.
+pub const MALFORMED: Refusal = 10;
