@@ -5,7 +5,7 @@ CFLAGS  = -std=c11 -Wall -Wextra -Wpedantic -Werror -Iinclude
 OUT     = target/tests
 FILE   ?= examples/frames.txt
 
-.PHONY: test run lib compare bench needs
+.PHONY: test run lib compare bench needs driver driver-test simh
 
 # rt ci begins by removing target/, so it comes first; its last line is repeated at the end where all else passed.
 test: needs
@@ -50,3 +50,26 @@ compare: $(OUT)/compare
 # Both implementations' speed, in one run.
 bench: $(OUT)/bench
 	$(OUT)/bench
+
+# The line driver: C programs over the library (driver/).
+DRIVER       = target/driver
+DRIVER_FLAGS = $(CFLAGS) -Wconversion -O2 -D_GNU_SOURCE -Idriver
+PROGRAMS     = mopimage mopload mopdump mopmachine
+PARTS        = line words options files host progress sha256 pieces hexfiles
+
+driver: $(PROGRAMS:%=$(DRIVER)/%)
+
+$(DRIVER)/%.o: driver/%.c $(wildcard driver/*.h) include/mop.h
+	@mkdir -p $(DRIVER)
+	@gcc $(DRIVER_FLAGS) -c -o $@ $<
+
+$(PROGRAMS:%=$(DRIVER)/%): %: %.o $(PARTS:%=$(DRIVER)/%.o) target/staticlib/libmop.a
+	@gcc -o $@ $^
+
+# The simulator whose boot ROM the driver is tested with; without it that test is skipped.
+simh:
+	@command -v pdp11 >/dev/null || apt-get install -y simh >/dev/null 2>&1 || echo "make: the package simh cannot be had"
+
+# The driver on a line of its own; tests/run does the same.
+driver-test: driver simh target/bin/frames
+	@for test in images veth ends rom; do bash tests/driver/$$test || [ $$? = 77 ] || exit 1; done

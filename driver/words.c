@@ -146,8 +146,8 @@ void dump_words(FILE *out, const mop_dump *session, const mop_dump_settings *set
     switch (session->verdict) {
     case 1:
         fprintf(out,
-            "Finished: the file holds the machine's memory, %" PRIu64 " bytes from 0x%08" PRIX32 " on; any bytes "
-            "beyond the end of its memory are 0. The machine's memory is as it was.\n",
+            "Finished: the machine sent all %" PRIu64 " bytes of its memory from 0x%08" PRIX32 " on; those beyond the "
+            "end of its memory are 0. Its memory is as it was.\n",
             settings->length, settings->address);
         break;
     case 3:
