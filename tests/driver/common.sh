@@ -58,7 +58,7 @@ bytes() {
     seq 1 9999999 | head -c "$1"
 }
 
-# after FILE TEXT: waits until the text stands in the file, 10 seconds at most.
+# after FILE TEXT: waits until the text stands in the file, 10 seconds at most. The file of an earlier case must be gone.
 after() {
     for _ in $(seq 1000); do
         grep -qs -- "$2" "$1" && return 0
