@@ -32,9 +32,9 @@ int host_open(host *h)
 static int step(host *h, const line_frame *frame)
 {
     uint8_t reply[MESSAGE_MOST];
-    const uint8_t timer = frame == NULL;
-    mop_written answer = h->calls->step(
-        h->job, timer, timer ? NULL : frame->bytes, timer ? 0 : frame->length, reply, sizeof reply);
+    mop_written answer = frame == NULL
+        ? h->calls->step(h->job, 1, NULL, 0, reply, sizeof reply)
+        : h->calls->step(h->job, 0, frame->bytes, frame->length, reply, sizeof reply);
     if (answer.refusal > 4)
         return complain(STATUS_OTHER, "the step is refused: %s", refusal_words(answer.refusal));
     h->unreadable += answer.refusal != 0;

@@ -76,8 +76,8 @@ static host_stage stage(const void *job)
 static void show(void *job)
 {
     dumping *d = job;
-    char machine[ADDRESS_TEXT];
     if (!d->begun && !d->session.waiting) {
+        char machine[ADDRESS_TEXT];
         printf("Dumping %s, which says it has %" PRIu32 " bytes of memory.\n", address_text(d->host->machine, machine),
             d->offer.memory_size);
         d->begun = true;
@@ -89,39 +89,41 @@ static const host_job calls = {before, step, begins, stage, show};
 
 /* ---- The command line ------------------------------------------------ */
 
+static const char manual[] =
+    "NAME\n"
+    "  mopdump - file a machine's memory by MOP over Ethernet\n"
+    "\n"
+    "SYNOPSIS\n"
+    "  mopdump -i INTERFACE --from ADDRESS --length N -o FILE [--machine ADDRESS]\n"
+    "          [-C N] [-R N] [--timer MS] [--wait S] [--trace FILE]\n"
+    "\n"
+    "DESCRIPTION\n"
+    "  Waits for a machine to offer a dump, asks for N bytes of its memory from\n"
+    "  ADDRESS on, and files them in FILE. An offer to all hosts is answered with\n"
+    "  an offer of assistance (code 3); the machine then turns to this host.\n"
+    "\n"
+    "  The bytes go to FILE.part, made before the machine is asked; it is named\n"
+    "  FILE only when the dump is finished and on the disk. If it is not finished\n"
+    "  there is no FILE, and what came stays in FILE.part. FILE.record tells in\n"
+    "  either case what happened: the verdict, the session's numbers, the range,\n"
+    "  the date, the SHA-256 of the file. A FILE that exists is never replaced.\n"
+    "\n"
+    "OPTIONS\n"
+    "  --from ADDRESS, --length N\n"
+    "        The range; it ends at address 0xFFFFFFFF or before. Bytes beyond the\n"
+    "        end of the machine's memory come as 0.\n"
+    "  -o FILE, --output FILE\n"
+    "        Where the dump is filed.\n"
+    "  --machine ADDRESS\n"
+    "        Serve this machine alone, for example 08-00-2B-AA-BB-CC.\n"
+    "  -C N, --count N\n"
+    "        Bytes asked for at a time, 1 to 1493. Default 1024.\n"
+    "  -R N, --repeats N\n"
+    "        Repeats allowed for each frame, 0 to 255. Default 16.\n";
+
 static void help(void)
 {
-    fputs("NAME\n"
-          "  mopdump - file a machine's memory by MOP over Ethernet\n"
-          "\n"
-          "SYNOPSIS\n"
-          "  mopdump -i INTERFACE --from ADDRESS --length N -o FILE [--machine ADDRESS]\n"
-          "          [-C N] [-R N] [--timer MS] [--wait S] [--trace FILE]\n"
-          "\n"
-          "DESCRIPTION\n"
-          "  Waits for a machine to offer a dump, asks for N bytes of its memory from\n"
-          "  ADDRESS on, and files them in FILE. An offer to all hosts is answered with\n"
-          "  an offer of assistance (code 3); the machine then turns to this host.\n"
-          "\n"
-          "  The bytes go to FILE.part, made before the machine is asked; it is named\n"
-          "  FILE only when the dump is finished and on the disk. If it is not finished\n"
-          "  there is no FILE, and what came stays in FILE.part. FILE.record tells in\n"
-          "  either case what happened: the verdict, the session's numbers, the range,\n"
-          "  the date, the SHA-256 of the file. A FILE that exists is never replaced.\n"
-          "\n"
-          "OPTIONS\n"
-          "  --from ADDRESS, --length N\n"
-          "        The range; it ends at address 0xFFFFFFFF or before. Bytes beyond the\n"
-          "        end of the machine's memory come as 0.\n"
-          "  -o FILE, --output FILE\n"
-          "        Where the dump is filed.\n"
-          "  --machine ADDRESS\n"
-          "        Serve this machine alone, for example 08-00-2B-AA-BB-CC.\n"
-          "  -C N, --count N\n"
-          "        Bytes asked for at a time, 1 to 1493. Default 1024.\n"
-          "  -R N, --repeats N\n"
-          "        Repeats allowed for each frame, 0 to 255. Default 16.\n",
-        stdout);
+    fputs(manual, stdout);
     common_help(stdout, "a machine's offer");
     words_statuses(stdout, STATUS_FINISHED, STATUS_OTHER);
     words_statuses(stdout, STATUS_GIVEN_UP, STATUS_GIVEN_UP);

@@ -108,6 +108,8 @@ static void explain(const contents *file, uint8_t refusal)
     printf("its trailer says: file length %" PRIu64 ", zero field %" PRIu64 ", %" PRIu64
            " regions, directory at byte %" PRIu64 "\n",
         number(trailer + 12, 4), number(trailer + 6, 2), count, directory);
+    if (refusal == 5)
+        puts("it is no image file, or was cut short or added to");
     if (refusal == 6)
         printf("with so many regions the directory would stand at byte %" PRId64 "\n",
             (int64_t)file->length - TRAILER - (int64_t)(ENTRY * count));
@@ -163,43 +165,45 @@ static int make(command *c)
 
 /* ---- The command line ------------------------------------------------ */
 
+static const char manual[] =
+    "NAME\n"
+    "  mopimage - make, list and check image files for mopload\n"
+    "\n"
+    "SYNOPSIS\n"
+    "  mopimage -o IMAGE [--transfer ADDRESS]\n"
+    "           {--at ADDRESS FILE | --srec FILE | --ihex FILE} ..\n"
+    "  mopimage --list IMAGE\n"
+    "  mopimage --check IMAGE\n"
+    "\n"
+    "DESCRIPTION\n"
+    "  Makes an image file from one or more inputs: the bytes of each with their\n"
+    "  addresses in the machine's memory, and the address where the machine is\n"
+    "  started. Inputs may come in any order and must not overlap; neighbours\n"
+    "  become one region, and there may be 64 regions.\n"
+    "\n"
+    "OPTIONS\n"
+    "  -o IMAGE, --output IMAGE\n"
+    "        The image file to make.\n"
+    "  --at ADDRESS FILE\n"
+    "        The bytes of FILE as they are, from ADDRESS on.\n"
+    "  --srec FILE, --ihex FILE\n"
+    "        Motorola S-records; Intel HEX. Their checksums are checked.\n"
+    "  --transfer ADDRESS\n"
+    "        Where the machine is started. It prevails over what an S-record or\n"
+    "        HEX file says; raw bytes say nothing, so there it must be given.\n"
+    "  --list IMAGE\n"
+    "        The regions and the transfer address.\n"
+    "  --check IMAGE\n"
+    "        Whether the library takes the image, and if not why, in words.\n"
+    "  --help\n"
+    "        This text.\n"
+    "\n"
+    "  Numbers are decimal, or hexadecimal (0x200), or octal (0o1000).\n"
+    "\n";
+
 static void help(void)
 {
-    fputs("NAME\n"
-          "  mopimage - make, list and check image files for mopload\n"
-          "\n"
-          "SYNOPSIS\n"
-          "  mopimage -o IMAGE [--transfer ADDRESS]\n"
-          "           {--at ADDRESS FILE | --srec FILE | --ihex FILE} ..\n"
-          "  mopimage --list IMAGE\n"
-          "  mopimage --check IMAGE\n"
-          "\n"
-          "DESCRIPTION\n"
-          "  Makes an image file from one or more inputs: the bytes of each with their\n"
-          "  addresses in the machine's memory, and the address where the machine is\n"
-          "  started. Inputs may come in any order and must not overlap; neighbours\n"
-          "  become one region, and there may be 64 regions.\n"
-          "\n"
-          "OPTIONS\n"
-          "  -o IMAGE, --output IMAGE\n"
-          "        The image file to make.\n"
-          "  --at ADDRESS FILE\n"
-          "        The bytes of FILE as they are, from ADDRESS on.\n"
-          "  --srec FILE, --ihex FILE\n"
-          "        Motorola S-records; Intel HEX. Their checksums are checked.\n"
-          "  --transfer ADDRESS\n"
-          "        Where the machine is started. It prevails over what an S-record or\n"
-          "        HEX file says; raw bytes say nothing, so there it must be given.\n"
-          "  --list IMAGE\n"
-          "        The regions and the transfer address.\n"
-          "  --check IMAGE\n"
-          "        Whether the library takes the image, and if not why, in words.\n"
-          "  --help\n"
-          "        This text.\n"
-          "\n"
-          "  Numbers are decimal, or hexadecimal (0x200), or octal (0o1000).\n"
-          "\n",
-        stdout);
+    fputs(manual, stdout);
     words_statuses(stdout, STATUS_FINISHED, STATUS_OTHER);
     words_statuses(stdout, STATUS_USAGE, STATUS_USAGE);
     words_statuses(stdout, STATUS_IMAGE, STATUS_FILE);

@@ -10,7 +10,7 @@
 #include "steps.h"
 #include "words.h"
 
-#define IMAGE_MOST 16777216
+#define FILE_MOST 67108864 /* bytes read; the library refuses long before */
 #define SEGMENT_MOST 1488 /* code 0 with more is above the Ethernet limit */
 #define SEGMENT_REST 10   /* what code 0 has beside the data */
 #define CODE_REQUEST_PROGRAM 8
@@ -100,35 +100,37 @@ static const host_job calls = {before, step, begins, stage, show};
 
 /* ---- The command line ------------------------------------------------ */
 
+static const char manual[] =
+    "NAME\n"
+    "  mopload - load a program into a machine by MOP over Ethernet\n"
+    "\n"
+    "SYNOPSIS\n"
+    "  mopload -i INTERFACE [--machine ADDRESS] [-S N] [-R N] [--timer MS]\n"
+    "          [--accept-type N] [--wait S] [--trace FILE] IMAGE\n"
+    "\n"
+    "DESCRIPTION\n"
+    "  Waits for a machine to ask for a program, loads the image file IMAGE into\n"
+    "  it and starts it. A request to all hosts is answered with an offer of\n"
+    "  assistance (code 3); the machine then asks this host. The first machine\n"
+    "  that does so is served, and then the program ends. mopimage makes images.\n"
+    "  The last lines tell what the machine's memory holds.\n"
+    "\n"
+    "OPTIONS\n"
+    "  --machine ADDRESS\n"
+    "        Serve this machine alone, for example 08-00-2B-AA-BB-CC.\n"
+    "  -S N, --segment N\n"
+    "        Bytes of a segment, 1 to 1488. Default 512.\n"
+    "  -R N, --repeats N\n"
+    "        Repeats allowed for each frame, 0 to 255. Default 4.\n"
+    "  --accept-type N\n"
+    "        Serve a machine that asks for a secondary (0) or tertiary (1) loader\n"
+    "        too. Many boot ROMs ask for type 1. The library serves type 2, an\n"
+    "        operating system: the request's type is changed before the library\n"
+    "        sees it, and the program says so.\n";
+
 static void help(void)
 {
-    fputs("NAME\n"
-          "  mopload - load a program into a machine by MOP over Ethernet\n"
-          "\n"
-          "SYNOPSIS\n"
-          "  mopload -i INTERFACE [--machine ADDRESS] [-S N] [-R N] [--timer MS]\n"
-          "          [--accept-type N] [--wait S] [--trace FILE] IMAGE\n"
-          "\n"
-          "DESCRIPTION\n"
-          "  Waits for a machine to ask for a program, loads the image file IMAGE into\n"
-          "  it and starts it. A request to all hosts is answered with an offer of\n"
-          "  assistance (code 3); the machine then asks this host. The first machine\n"
-          "  that does so is served, and then the program ends. mopimage makes images.\n"
-          "  The last lines tell what the machine's memory holds.\n"
-          "\n"
-          "OPTIONS\n"
-          "  --machine ADDRESS\n"
-          "        Serve this machine alone, for example 08-00-2B-AA-BB-CC.\n"
-          "  -S N, --segment N\n"
-          "        Bytes of a segment, 1 to 1488. Default 512.\n"
-          "  -R N, --repeats N\n"
-          "        Repeats allowed for each frame, 0 to 255. Default 4.\n"
-          "  --accept-type N\n"
-          "        Serve a machine that asks for a secondary (0) or tertiary (1) loader\n"
-          "        too. Many boot ROMs ask for type 1. The library serves type 2, an\n"
-          "        operating system: the request's type is changed before the library\n"
-          "        sees it, and the program says so.\n",
-        stdout);
+    fputs(manual, stdout);
     common_help(stdout, "a machine's request");
     words_statuses(stdout, STATUS_FINISHED, STATUS_FILE);
     fputs("\n"
@@ -178,7 +180,7 @@ static int options(int count, char **words, host *h, loading *l)
 
 static int read_image(loading *l)
 {
-    int status = file_read(l->path, IMAGE_MOST + 1, &l->file);
+    int status = file_read(l->path, FILE_MOST, &l->file);
     if (status != 0)
         return status;
     l->image = mop_image_check(l->file.bytes, l->file.length, l->settings.segment_size);

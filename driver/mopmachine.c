@@ -143,34 +143,36 @@ static int run(machine_end *m)
 
 /* ---- The command line ------------------------------------------------ */
 
+static const char manual[] =
+    "NAME\n"
+    "  mopmachine - be a machine that asks for a program or offers a dump\n"
+    "\n"
+    "SYNOPSIS\n"
+    "  mopmachine -i INTERFACE --memory N [--offer] [--fill FILE] [--save FILE]\n"
+    "             [-D N] [--timer MS] [--wait S] [--trace FILE]\n"
+    "\n"
+    "DESCRIPTION\n"
+    "  The machine end as a process, to rehearse a shift without the machine. It\n"
+    "  asks all hosts for a program (or, with --offer, offers a dump), then the\n"
+    "  host that answers, and ends when it is started (or the dump is complete).\n"
+    "\n"
+    "OPTIONS\n"
+    "  --memory N\n"
+    "        Bytes of memory, up to 16777216.\n"
+    "  --offer\n"
+    "        Offer a dump and not ask for a program.\n"
+    "  --fill FILE\n"
+    "        What the memory holds at first, from address 0 on; the rest is 0.\n"
+    "  --save FILE\n"
+    "        Write the memory to FILE at the end, however it ends.\n"
+    "  -D N, --dump-most N\n"
+    "        Bytes of a dump reply at most, 1 to 1493. Default 1024.\n"
+    "  --device N, --processor N\n"
+    "        What it says it is, 0 to 255. Default 0.\n";
+
 static void help(void)
 {
-    fputs("NAME\n"
-          "  mopmachine - be a machine that asks for a program or offers a dump\n"
-          "\n"
-          "SYNOPSIS\n"
-          "  mopmachine -i INTERFACE --memory N [--offer] [--fill FILE] [--save FILE]\n"
-          "             [-D N] [--timer MS] [--wait S] [--trace FILE]\n"
-          "\n"
-          "DESCRIPTION\n"
-          "  The machine end as a process, to rehearse a shift without the machine. It\n"
-          "  asks all hosts for a program (or, with --offer, offers a dump), then the\n"
-          "  host that answers, and ends when it is started (or the dump is complete).\n"
-          "\n"
-          "OPTIONS\n"
-          "  --memory N\n"
-          "        Bytes of memory, up to 16777216.\n"
-          "  --offer\n"
-          "        Offer a dump and not ask for a program.\n"
-          "  --fill FILE\n"
-          "        What the memory holds at first, from address 0 on; the rest is 0.\n"
-          "  --save FILE\n"
-          "        Write the memory to FILE at the end, however it ends.\n"
-          "  -D N, --dump-most N\n"
-          "        Bytes of a dump reply at most, 1 to 1493. Default 1024.\n"
-          "  --device N, --processor N\n"
-          "        What it says it is, 0 to 255. Default 0.\n",
-        stdout);
+    fputs(manual, stdout);
     common_help(stdout, "a host to be heard");
     words_statuses(stdout, STATUS_FINISHED, STATUS_OTHER);
     words_statuses(stdout, STATUS_SILENT, STATUS_PERMISSION);

@@ -9,7 +9,7 @@
 
 #include "files.h"
 
-#define IMAGE_MOST 16777216
+#define IMAGE_MOST ((size_t)16777216)
 
 typedef struct piece {
     uint64_t address;

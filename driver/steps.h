@@ -10,22 +10,22 @@ static inline mop_written load_update(mop_load *session, mop_load_settings setti
     const uint8_t *file, size_t file_length, const uint8_t *frame, size_t frame_length, uint8_t *reply,
     size_t reply_length)
 {
-    mop_load_step step = timer
+    mop_load_step given = timer
         ? mop_load_timer(settings, *session, file, file_length, reply, reply_length)
         : mop_load_frame(settings, *session, file, file_length, frame, frame_length, reply, reply_length);
-    *session = step.session;
-    return step.answer;
+    *session = given.session;
+    return given.answer;
 }
 
 static inline mop_written dump_update(mop_dump *session, mop_dump_settings settings, uint8_t timer,
     const uint8_t *frame, size_t frame_length, uint8_t *buffer, size_t buffer_length, uint8_t *reply,
     size_t reply_length)
 {
-    mop_dump_step step = timer
+    mop_dump_step given = timer
         ? mop_dump_timer(settings, *session, buffer, buffer_length, reply, reply_length)
         : mop_dump_frame(settings, *session, frame, frame_length, buffer, buffer_length, reply, reply_length);
-    *session = step.session;
-    return step.answer;
+    *session = given.session;
+    return given.answer;
 }
 
 #endif

@@ -41,7 +41,8 @@ void words_statuses(FILE *out, int first, int last)
         {STATUS_IMAGE, "the image is refused"},
         {STATUS_FILE, "a file cannot be read or written"},
     };
-    fputs("EXIT STATUS\n", out);
+    if (first == STATUS_FINISHED)
+        fputs("EXIT STATUS\n", out);
     for (size_t i = 0; i < sizeof table / sizeof table[0]; i++)
         if (table[i].status >= first && table[i].status <= last)
             fprintf(out, "  %2d  %s\n", table[i].status, table[i].words);
@@ -57,12 +58,10 @@ const char *refusal_words(uint8_t refusal)
         "bytes are left over in the frame, or it has more than 1500",
         "the frame's code is none of the protocol's",
         "a field of the frame has a value outside its list",
-        "the file has under 16 or above 16777216 bytes, or the length at its end is not its length, or the two bytes "
-        "kept zero are not zero: it is no image file, or was cut short",
+        "the file is too short or too long (16 to 16777216 bytes), or its length field or zero field is wrong",
         "the number of regions is not 1 to 64, or the directory does not stand where the trailer says",
         "a region is empty, or its bytes are not in the file, or it ends above address 0xFFFFFFFF",
-        "a region begins before the end of the region before it: regions must be in the order of their addresses and "
-        "not overlap",
+        "a region begins before the end of the region before: they stand in order and do not overlap",
         "a buffer is too short",
         "a setting, a length or a range is outside its bounds",
     };

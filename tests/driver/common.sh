@@ -2,7 +2,7 @@
 # outside is touched. A test that cannot run here ends with status 77, skipped.
 
 cd "$(dirname "${BASH_SOURCE[0]}")/../.." || exit 1
-programs=$PWD/target/driver
+programs=${DRIVER_PROGRAMS:-$PWD/target/driver}
 here=$PWD/tests/driver
 
 skip() {
