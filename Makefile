@@ -66,10 +66,13 @@ $(DRIVER)/%.o: driver/%.c $(wildcard driver/*.h) include/mop.h
 $(PROGRAMS:%=$(DRIVER)/%): %: %.o $(PARTS:%=$(DRIVER)/%.o) target/staticlib/libmop.a
 	@gcc -o $@ $^
 
+$(DRIVER)/probe: tests/driver/probe.c $(PARTS:%=$(DRIVER)/%.o) target/staticlib/libmop.a
+	@gcc $(DRIVER_FLAGS) -o $@ $^
+
 # The simulator whose boot ROM the driver is tested with; without it that test is skipped.
 simh:
 	@command -v pdp11 >/dev/null || apt-get install -y simh >/dev/null 2>&1 || echo "make: the package simh cannot be had"
 
 # The driver on a line of its own; tests/run does the same.
-driver-test: driver simh target/bin/frames
+driver-test: driver $(DRIVER)/probe simh target/bin/frames
 	@for test in images veth ends rom; do bash tests/driver/$$test || [ $$? = 77 ] || exit 1; done
