@@ -5,7 +5,7 @@ CFLAGS  = -std=c11 -Wall -Wextra -Wpedantic -Werror -Iinclude
 OUT     = target/tests
 FILE   ?= examples/frames.txt
 
-.PHONY: test run lib compare bench needs driver driver-test simh
+.PHONY: test run lib compare bench needs driver driver-test line-bench simh
 
 # rt ci begins by removing target/, so it comes first; its last line is repeated at the end where all else passed.
 test: needs
@@ -40,7 +40,7 @@ BOTH = --extern mop_plain=$(OUT)/libmop_plain.rlib --extern mop_proved=$(OUT)/li
 $(OUT)/compare: $(OUT)/libmop_plain.rlib $(OUT)/libmop_proved.rlib $(shell find tests/compare -name '*.rs')
 	$(RUSTC) --crate-name compare $(BOTH) -o $@ tests/compare/main.rs
 
-$(OUT)/bench: $(OUT)/libmop_plain.rlib $(OUT)/libmop_proved.rlib bench/main.rs
+$(OUT)/bench: $(OUT)/libmop_plain.rlib $(OUT)/libmop_proved.rlib $(wildcard bench/*.rs)
 	$(RUSTC) --crate-name bench $(BOTH) -o $@ bench/main.rs
 
 # The proved library against the independent implementation.
@@ -72,6 +72,10 @@ $(DRIVER)/probe: tests/driver/probe.c $(PARTS:%=$(DRIVER)/%.o) target/staticlib/
 # The simulator whose boot ROM the driver is tested with; without it that test is skipped.
 simh:
 	@command -v pdp11 >/dev/null || apt-get install -y simh >/dev/null 2>&1 || echo "make: the package simh cannot be had"
+
+# The speed of a load over a line in memory.
+line-bench: driver
+	@bash bench/line
 
 # The driver on a line of its own; tests/run does the same.
 driver-test: driver $(DRIVER)/probe simh target/bin/frames

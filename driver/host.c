@@ -45,25 +45,27 @@ static int step(host *h, const line_frame *frame)
 }
 
 /* A request to all hosts that would be served: code 3 to its sender, who then
- * asks this host alone. Once the machine has answered, no more of that. */
+ * asks this host alone. */
 static int volunteer(host *h, const line_frame *frame)
 {
     uint8_t offer[MESSAGE_MOST];
-    host_stage stage = h->calls->stage(h->job);
-    if ((stage != HOST_WAITING && stage != HOST_FIRST) || !h->calls->begins(h->job, frame))
+    if (!h->calls->begins(h->job, frame))
         return 0;
     mop_written written = mop_write_volunteer(offer, sizeof offer);
     return line_send(&h->line, frame->from, offer, written.length);
 }
 
+/* Once the machine has answered, its requests go unheard. */
 static int take(host *h, line_frame *frame)
 {
     if (h->named && memcmp(frame->from, h->machine, ADDRESS_LENGTH) != 0)
         return 0;
-    h->calls->before(h->job, frame);
+    host_stage stage = h->calls->stage(h->job);
+    if (stage == HOST_WAITING || stage == HOST_FIRST)
+        h->calls->before(h->job, frame);
     if (frame->multicast)
-        return volunteer(h, frame);
-    if (h->calls->stage(h->job) != HOST_WAITING)
+        return stage == HOST_UNDER_WAY ? 0 : volunteer(h, frame);
+    if (stage != HOST_WAITING)
         return step(h, frame);
     if (!h->calls->begins(h->job, frame))
         return 0;

@@ -14,7 +14,8 @@ typedef enum host_stage { HOST_WAITING, HOST_FIRST, HOST_UNDER_WAY, HOST_OVER } 
 
 /* The load or the dump. */
 typedef struct host_job {
-    /* Looks at a message before the library does; may change a request. */
+    /* Looks at a message before the library does, as long as the machine has
+     * not answered; may change a request. */
     void (*before)(void *job, line_frame *frame);
     /* One step of the library on the job's own record. */
     mop_written (*step)(void *job, uint8_t timer, const uint8_t *frame, size_t frame_length, uint8_t *reply,

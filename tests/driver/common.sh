@@ -1,6 +1,7 @@
 # Shared by the tests of the line driver. Each runs in a network namespace of its own, which ends with it: no interface
 # outside is touched. A test that cannot run here ends with status 77, skipped.
 
+self=$(realpath "$0")
 cd "$(dirname "${BASH_SOURCE[0]}")/../.." || exit 1
 programs=${DRIVER_PROGRAMS:-$PWD/target/driver}
 here=$PWD/tests/driver
@@ -18,7 +19,7 @@ own_namespace() {
     $way true 2>/dev/null || skip "no network namespace can be made here"
     export KOCHIPURN_NAMESPACE=$$
     # exec keeps the process number
-    exec $way bash "$here/$(basename "$0")" "$@"
+    exec $way bash "$self" "$@"
 }
 
 # A pair of interfaces with a line between: vhost and vmachine.
