@@ -79,4 +79,4 @@ line-bench: driver
 
 # The driver on a line of its own; tests/run does the same.
 driver-test: driver $(DRIVER)/probe simh target/bin/frames
-	@for test in images veth ends rom; do bash tests/driver/$$test || [ $$? = 77 ] || exit 1; done
+	@for test in images veth ends readme rom; do bash tests/driver/$$test || [ $$? = 77 ] || exit 1; done
