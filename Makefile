@@ -8,7 +8,7 @@ OUT     = target/tests
 LIB     = target/staticlib/libmop.a
 FILE   ?= examples/frames.txt
 
-.PHONY: test run lib compare compare-rehearsal bench needs header layout examples guards sanitize lint
+.PHONY: test run lib compare compare-rehearsal bench needs header layout examples guards sanitize lint driver driver-test line-bench simh
 
 # rt ci begins by removing target/, so it comes first; its last line is repeated at the end where all else passed.
 test: needs
@@ -50,7 +50,7 @@ SHARED = $(addprefix tests/compare/, file.rs random.rs text.rs)
 $(OUT)/rehearse: $(OUT)/libmop_plain.rlib $(wildcard tests/rehearse/*.rs) $(SHARED)
 	$(RUSTC) --crate-name rehearse --extern mop_plain=$(OUT)/libmop_plain.rlib -o $@ tests/rehearse/main.rs
 
-$(OUT)/bench: $(OUT)/libmop_plain.rlib $(OUT)/libmop_proved.rlib bench/main.rs
+$(OUT)/bench: $(OUT)/libmop_plain.rlib $(OUT)/libmop_proved.rlib $(wildcard bench/*.rs)
 	$(RUSTC) --crate-name bench $(BOTH) -o $@ bench/main.rs
 
 # The proved library against the independent implementation.
@@ -145,3 +145,33 @@ lint: $(OUT)/page.inc
 	clang-format --dry-run -Werror $(CSOURCES)
 	cppcheck --quiet --std=c11 --error-exitcode=1 --enable=warning,style,performance,portability -Iinclude -I$(OUT) -DSTRUCTS=16 -DWRONG=1 $(filter %.c,$(CSOURCES))
 	clang-tidy --quiet --warnings-as-errors='*' $(filter %.c,$(CSOURCES)) -- -std=c11 -Iinclude -I$(OUT) -DSTRUCTS=16 -DWRONG=1
+
+# The line driver: C programs over the library (driver/).
+DRIVER       = target/driver
+DRIVER_CC    = $(CC11) -D_GNU_SOURCE -Idriver
+PROGRAMS     = mopimage mopload mopdump mopmachine
+PARTS        = line words options files host progress sha256 pieces hexfiles
+
+driver: $(PROGRAMS:%=$(DRIVER)/%)
+
+$(DRIVER)/%.o: driver/%.c $(wildcard driver/*.h) include/mop.h
+	@mkdir -p $(DRIVER)
+	@$(DRIVER_CC) -c -o $@ $<
+
+$(PROGRAMS:%=$(DRIVER)/%): %: %.o $(PARTS:%=$(DRIVER)/%.o) $(LIB)
+	@gcc -o $@ $^
+
+$(DRIVER)/probe: tests/driver/probe.c $(PARTS:%=$(DRIVER)/%.o) $(LIB)
+	@$(DRIVER_CC) -o $@ $^
+
+# The simulator whose boot ROM the driver is tested with; without it that test is skipped.
+simh:
+	@command -v pdp11 >/dev/null || apt-get install -y simh >/dev/null 2>&1 || echo "make: the package simh cannot be had"
+
+# The speed of a load over a line in memory.
+line-bench: driver
+	@bash bench/line
+
+# The driver on a line of its own; tests/run does the same.
+driver-test: driver $(DRIVER)/probe simh target/bin/frames
+	@for test in images veth ends readme rom; do bash tests/driver/$$test || [ $$? = 77 ] || exit 1; done

@@ -1,9 +1,11 @@
 //! How long the proved library takes beside the plain implementation: the
-//! reader, the image check and the segment call.
+//! reader, the image check, the segment call, and a dump between two ends.
 //!
 //! Both get the same inputs in one run, in turns, and borrow what they read:
-//! neither allocates, and no buffer is written. Each is called directly, as a
-//! driver would call it.
+//! neither allocates, and but for the dump no buffer is written. Each is
+//! called directly, as a driver would call it.
+
+mod dump;
 
 use std::hint::black_box;
 use std::time::{Duration, Instant};
@@ -75,6 +77,7 @@ fn main() {
         check(&format!("image check, {name}"), &file);
         segment(&format!("image segment, {name}"), &file);
     }
+    print("dump of 16 MiB, a frame", &dump::rounds());
 }
 
 fn read(name: &str, frames: &[Vec<u8>]) {
@@ -142,6 +145,11 @@ fn compare<T>(name: &str, inputs: &[T], proved: impl Fn(&T), plain: impl Fn(&T))
         let nanoseconds = |time: Duration| time.as_nanos() as f64 / calls;
         rounds.push((nanoseconds(proved), nanoseconds(plain)));
     }
+    print(name, &rounds);
+}
+
+/// The medians of rounds, proved and plain, on a line.
+fn print(name: &str, rounds: &[(f64, f64)]) {
     let of = |number: fn(&(f64, f64)) -> f64| median(rounds.iter().map(number).collect());
     println!(
         "{name:<36}{:>12.1}{:>12.1}{:>9.2}",

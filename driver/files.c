@@ -1,0 +1,182 @@
+#include "files.h"
+
+#include <errno.h>
+#include <fcntl.h>
+#include <libgen.h>
+#include <stdio.h>
+#include <stdlib.h>
+#include <string.h>
+#include <sys/stat.h>
+#include <unistd.h>
+
+#include "words.h"
+
+static int cannot(const char *path, const char *what)
+{
+    return complain(STATUS_FILE, "%s cannot be %s: %s", path, what, strerror(errno));
+}
+
+/* Reads to the end of the file or of the room, whichever is first. */
+static int read_to(FILE *in, const char *path, size_t most, contents *file)
+{
+    size_t room = 65536;
+    for (;;) {
+        room = room * 2 < most + 1 ? room * 2 : most + 1;
+        uint8_t *grown = realloc(file->bytes, room);
+        if (grown == NULL)
+            return complain(STATUS_OTHER, "no memory for %s", path);
+        file->bytes = grown;
+        file->length += fread(file->bytes + file->length, 1, room - file->length, in);
+        if (ferror(in))
+            return cannot(path, "read");
+        if (file->length < room)
+            return 0;
+        if (file->length > most)
+            return complain(STATUS_FILE, "%s has more than %zu bytes", path, most);
+    }
+}
+
+int file_read(const char *path, size_t most, contents *file)
+{
+    *file = (contents){NULL, 0};
+    FILE *in = fopen(path, "rbe");
+    if (in == NULL)
+        return cannot(path, "read");
+    int status = read_to(in, path, most, file);
+    fclose(in);
+    if (status != 0) {
+        free(file->bytes);
+        *file = (contents){NULL, 0};
+    }
+    return status;
+}
+
+static int part_name(aside *a)
+{
+    size_t size = strlen(a->path) + sizeof ".part";
+    a->part = malloc(size);
+    if (a->part == NULL)
+        return complain(STATUS_OTHER, "no memory");
+    snprintf(a->part, size, "%s.part", a->path);
+    return 0;
+}
+
+int aside_open(aside *a, const char *path, uint64_t length)
+{
+    *a = (aside){.path = path, .fd = -1};
+    int status = part_name(a);
+    if (status != 0)
+        return status;
+    a->fd = open(a->part, O_WRONLY | O_CREAT | O_EXCL | O_CLOEXEC, 0666);
+    if (a->fd < 0 && errno == EEXIST)
+        status = complain(STATUS_FILE, "%s is there from an earlier run: move it away or remove it", a->part);
+    else if (a->fd < 0)
+        status = cannot(path, "written");
+    if (status != 0) {
+        free(a->part);
+        a->part = NULL;
+        return status;
+    }
+    errno = length == 0 ? 0 : posix_fallocate(a->fd, 0, (off_t)length);
+    if (errno == 0 || errno == EOPNOTSUPP || errno == EINVAL)
+        return 0;
+    status = cannot(path, "written");
+    aside_remove(a);
+    return status;
+}
+
+int aside_write(aside *a, const uint8_t *bytes, uint64_t length)
+{
+    if (ftruncate(a->fd, (off_t)length) != 0)
+        return cannot(a->part, "written");
+    for (uint64_t done = 0; done < length;) {
+        ssize_t n = write(a->fd, bytes + done, length - done);
+        if (n < 0 && errno == EINTR)
+            continue;
+        if (n <= 0)
+            return cannot(a->part, "written");
+        done += (uint64_t)n;
+    }
+    return 0;
+}
+
+static int sync_and_close(aside *a)
+{
+    int failed = fsync(a->fd);
+    failed |= close(a->fd);
+    a->fd = -1;
+    return failed == 0 ? 0 : cannot(a->part, "written");
+}
+
+static int rename_to(const aside *a, bool replace)
+{
+    if (replace)
+        return rename(a->part, a->path);
+    int failed = renameat2(AT_FDCWD, a->part, AT_FDCWD, a->path, RENAME_NOREPLACE);
+    if (failed == 0 || (errno != EINVAL && errno != ENOSYS))
+        return failed;
+    if (access(a->path, F_OK) == 0) { /* a file system without that call */
+        errno = EEXIST;
+        return -1;
+    }
+    return rename(a->part, a->path);
+}
+
+/* The name is on the disk once its directory is. */
+static void sync_directory(const char *path)
+{
+    char *copy = strdup(path);
+    if (copy == NULL)
+        return;
+    int fd = open(dirname(copy), O_RDONLY | O_DIRECTORY | O_CLOEXEC);
+    if (fd >= 0) {
+        fsync(fd);
+        close(fd);
+    }
+    free(copy);
+}
+
+int aside_finish(aside *a, bool replace)
+{
+    int status = sync_and_close(a);
+    if (status == 0 && rename_to(a, replace) != 0) {
+        status = complain(
+            STATUS_FILE, "%s cannot be named %s: %s; it is whole and stays", a->part, a->path, strerror(errno));
+    } else if (status == 0) {
+        sync_directory(a->path);
+    }
+    free(a->part);
+    a->part = NULL;
+    return status;
+}
+
+int aside_leave(aside *a)
+{
+    int status = sync_and_close(a);
+    free(a->part);
+    a->part = NULL;
+    return status;
+}
+
+void aside_remove(aside *a)
+{
+    if (a->fd >= 0)
+        close(a->fd);
+    if (a->part != NULL)
+        unlink(a->part);
+    free(a->part);
+    *a = (aside){.path = a->path, .fd = -1};
+}
+
+int file_write(const char *path, const uint8_t *bytes, size_t length)
+{
+    aside a;
+    int status = aside_open(&a, path, length);
+    if (status != 0)
+        return status;
+    status = aside_write(&a, bytes, length);
+    if (status == 0)
+        return aside_finish(&a, true);
+    aside_remove(&a);
+    return status;
+}

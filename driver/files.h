@@ -1,0 +1,41 @@
+/* files.h: whole files, and files that appear only when they are whole. */
+#ifndef FILES_H
+#define FILES_H
+
+#include <stdbool.h>
+#include <stddef.h>
+#include <stdint.h>
+
+typedef struct contents {
+    uint8_t *bytes;
+    size_t length;
+} contents;
+
+/* A file of at most most bytes: 0, or an exit status with the reason said.
+ * The caller frees bytes. */
+int file_read(const char *path, size_t most, contents *file);
+
+/* A file that is written aside, as PATH.part, and gets its name when it is
+ * whole and on the disk. */
+typedef struct aside {
+    const char *path;
+    char *part;
+    int fd;
+} aside;
+
+/* Makes PATH.part, with room for length bytes. Refuses if PATH.part exists. */
+int aside_open(aside *a, const char *path, uint64_t length);
+int aside_write(aside *a, const uint8_t *bytes, uint64_t length);
+
+/* Syncs and renames; a file that has the name already is replaced, or is
+ * left alone and that is an error. */
+int aside_finish(aside *a, bool replace);
+
+/* Syncs and leaves what there is as PATH.part; or removes it. */
+int aside_leave(aside *a);
+void aside_remove(aside *a);
+
+/* All of it at once, replacing. */
+int file_write(const char *path, const uint8_t *bytes, size_t length);
+
+#endif

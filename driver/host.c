@@ -1,0 +1,125 @@
+#include "host.h"
+
+#include <inttypes.h>
+#include <string.h>
+
+#include "words.h"
+
+int host_machine(host *h, const char *text)
+{
+    h->named = true;
+    return option_address("--machine", text, h->machine);
+}
+
+int host_open(host *h)
+{
+    char own[ADDRESS_TEXT], other[ADDRESS_TEXT];
+    int status = line_open(&h->line, &h->settings.line);
+    if (status != 0)
+        return status;
+    status = line_join(&h->line);
+    if (status != 0) {
+        line_close(&h->line);
+        return status;
+    }
+    printf("Waiting on %s (%s) for a request from %s.\n", h->line.name, address_text(h->line.address, own),
+        h->named ? address_text(h->machine, other) : "any machine");
+    fflush(stdout);
+    return 0;
+}
+
+/* Hands a frame or the timer to the library and sends what it gives. */
+static int step(host *h, const line_frame *frame)
+{
+    uint8_t reply[MESSAGE_MOST];
+    mop_written answer = frame == NULL
+        ? h->calls->step(h->job, 1, NULL, 0, reply, sizeof reply)
+        : h->calls->step(h->job, 0, frame->bytes, frame->length, reply, sizeof reply);
+    if (answer.refusal > 4)
+        return complain(STATUS_OTHER, "the step is refused: %s", refusal_words(answer.refusal));
+    h->unreadable += answer.refusal != 0;
+    if (answer.length == 0)
+        return 0;
+    h->due = clock_now() + h->settings.timer;
+    return line_send(&h->line, h->machine, reply, answer.length);
+}
+
+/* A request to all hosts that would be served: code 3 to its sender, who then
+ * asks this host alone. */
+static int volunteer(host *h, const line_frame *frame)
+{
+    uint8_t offer[MESSAGE_MOST];
+    if (!h->calls->begins(h->job, frame))
+        return 0;
+    mop_written written = mop_write_volunteer(offer, sizeof offer);
+    return line_send(&h->line, frame->from, offer, written.length);
+}
+
+/* Once the machine has answered, its requests go unheard. */
+static int take(host *h, line_frame *frame)
+{
+    if (h->named && memcmp(frame->from, h->machine, ADDRESS_LENGTH) != 0)
+        return 0;
+    host_stage stage = h->calls->stage(h->job);
+    if (stage == HOST_WAITING || stage == HOST_FIRST)
+        h->calls->before(h->job, frame);
+    if (frame->multicast)
+        return stage == HOST_UNDER_WAY ? 0 : volunteer(h, frame);
+    if (stage != HOST_WAITING)
+        return step(h, frame);
+    if (!h->calls->begins(h->job, frame))
+        return 0;
+    h->named = true;
+    memcpy(h->machine, frame->from, ADDRESS_LENGTH);
+    return step(h, frame);
+}
+
+static int silence(host *h)
+{
+    if (h->calls->stage(h->job) != HOST_WAITING)
+        return step(h, NULL);
+    return complain(STATUS_SILENT, "no machine asked within %" PRIu32 " seconds: is it on, on this line, and set to "
+        "boot from the network?", h->settings.wait);
+}
+
+int host_run(host *h)
+{
+    line_frame frame;
+    int status = 0;
+    h->due = clock_now() + (int64_t)h->settings.wait * 1000;
+    while (status == 0 && h->calls->stage(h->job) != HOST_OVER) {
+        switch (line_receive(&h->line, &frame, h->due)) {
+        case LINE_FRAME:
+            status = take(h, &frame);
+            if (status == 0 && clock_now() >= h->due) /* frames that mean nothing do not stop the timer */
+                status = silence(h);
+            break;
+        case LINE_QUIET:
+            status = silence(h);
+            break;
+        case LINE_SIGNAL:
+            status = complain(STATUS_INTERRUPTED, "interrupted by a signal");
+            break;
+        default:
+            status = STATUS_INTERFACE;
+        }
+        h->calls->show(h->job);
+    }
+    return status;
+}
+
+static void tell(const char *what, const direction *d)
+{
+    if (d->lost != 0 || d->doubled != 0)
+        printf("Of %" PRIu64 " frames %s, %" PRIu64 " were lost and %" PRIu64 " doubled on purpose.\n", d->frames,
+            what, d->lost, d->doubled);
+}
+
+void host_close(host *h)
+{
+    if (h->unreadable != 0)
+        printf("%" PRIu64 " unreadable frames came and were ignored.\n", h->unreadable);
+    tell("sent", &h->line.out);
+    tell("received", &h->line.in);
+    line_close(&h->line);
+}

@@ -1,0 +1,54 @@
+/* host.h: the host's side of the line, for a load and for a dump alike. It
+ * waits for a machine's request, offers itself, hands frames and timers to
+ * the library's step and sends what the step gives. */
+#ifndef HOST_H
+#define HOST_H
+
+#include <stdbool.h>
+
+#include "line.h"
+#include "mop.h"
+#include "options.h"
+
+typedef enum host_stage { HOST_WAITING, HOST_FIRST, HOST_UNDER_WAY, HOST_OVER } host_stage;
+
+/* The load or the dump. */
+typedef struct host_job {
+    /* Looks at a message before the library does, as long as the machine has
+     * not answered; may change a request. */
+    void (*before)(void *job, line_frame *frame);
+    /* One step of the library on the job's own record. */
+    mop_written (*step)(void *job, uint8_t timer, const uint8_t *frame, size_t frame_length, uint8_t *reply,
+        size_t reply_length);
+    /* Whether the library would begin with this message; the record stays. */
+    bool (*begins)(const void *job, const line_frame *frame);
+    /* Waiting; begun without an answer yet; under way; over. */
+    host_stage (*stage)(const void *job);
+    /* After each step. */
+    void (*show)(void *job);
+} host_job;
+
+typedef struct host {
+    common_settings settings;
+    uint8_t machine[ADDRESS_LENGTH]; /* the one served */
+    bool named;                      /* by the command line, or by its request */
+    line line;
+    int64_t due; /* when the timer runs out */
+    uint64_t unreadable;
+    const host_job *calls;
+    void *job;
+} host;
+
+/* --machine */
+int host_machine(host *h, const char *text);
+
+/* Opens the line and says so. 0 or an exit status. */
+int host_open(host *h);
+
+/* Runs the job to its end: 0 once it is over, or an exit status. */
+int host_run(host *h);
+
+/* Closes the line and tells what was lost, doubled or unreadable. */
+void host_close(host *h);
+
+#endif

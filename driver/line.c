@@ -1,0 +1,293 @@
+#include "line.h"
+
+#include <arpa/inet.h>
+#include <errno.h>
+#include <linux/if_packet.h>
+#include <net/if_arp.h>
+#include <net/ethernet.h>
+#include <poll.h>
+#include <signal.h>
+#include <string.h>
+#include <sys/ioctl.h>
+#include <sys/socket.h>
+#include <time.h>
+#include <unistd.h>
+
+#include "words.h"
+
+#define TYPE 0x6001
+#define HEADER 14
+#define SHORTEST 60
+#define LONGEST (HEADER + LENGTH_FIELD + MESSAGE_MOST)
+
+const uint8_t ASSISTANCE[ADDRESS_LENGTH] = {0xAB, 0x00, 0x00, 0x01, 0x00, 0x00};
+
+static volatile sig_atomic_t signal_came;
+static sigset_t signals_let_in;
+
+static void on_signal(int number)
+{
+    signal_came = number;
+}
+
+void signals_catch(void)
+{
+    static const int caught[] = {SIGINT, SIGTERM, SIGHUP};
+    struct sigaction action = {.sa_handler = on_signal};
+    sigset_t blocked;
+    sigemptyset(&blocked);
+    sigemptyset(&action.sa_mask);
+    for (size_t i = 0; i < sizeof caught / sizeof caught[0]; i++) {
+        sigaddset(&blocked, caught[i]);
+        sigaction(caught[i], &action, NULL);
+    }
+    sigprocmask(SIG_BLOCK, &blocked, &signals_let_in);
+}
+
+bool signals_came(void)
+{
+    return signal_came != 0;
+}
+
+int64_t clock_now(void)
+{
+    struct timespec t;
+    clock_gettime(CLOCK_MONOTONIC, &t);
+    return (int64_t)t.tv_sec * 1000 + t.tv_nsec / 1000000;
+}
+
+/* ---- Opening --------------------------------------------------------- */
+
+static int open_socket(line *l)
+{
+    /* No protocol yet: nothing is taken before the interface is known. */
+    l->socket = socket(AF_PACKET, SOCK_RAW | SOCK_CLOEXEC, 0);
+    if (l->socket >= 0)
+        return 0;
+    if (errno == EPERM || errno == EACCES)
+        return complain(STATUS_PERMISSION,
+            "no permission to use %s: run as root, or with the capability CAP_NET_RAW", l->name);
+    return complain(STATUS_INTERFACE, "no socket for Ethernet frames: %s", strerror(errno));
+}
+
+/* Its number, its own address, its longest frame, and that it is up. */
+static int ask_interface(line *l)
+{
+    struct ifreq ask;
+    memset(&ask, 0, sizeof ask);
+    memcpy(ask.ifr_name, l->name, IFNAMSIZ);
+    if (ioctl(l->socket, SIOCGIFINDEX, &ask) < 0)
+        return complain(STATUS_INTERFACE, "no interface is called %s (see: ip link)", l->name);
+    l->index = ask.ifr_ifindex;
+    if (ioctl(l->socket, SIOCGIFHWADDR, &ask) < 0 || ask.ifr_hwaddr.sa_family != ARPHRD_ETHER)
+        return complain(STATUS_INTERFACE, "%s is not an Ethernet interface", l->name);
+    memcpy(l->address, ask.ifr_hwaddr.sa_data, ADDRESS_LENGTH);
+    if (ioctl(l->socket, SIOCGIFMTU, &ask) < 0)
+        return complain(STATUS_INTERFACE, "%s: %s", l->name, strerror(errno));
+    uint32_t most = ask.ifr_mtu < LENGTH_FIELD ? 0 : (uint32_t)ask.ifr_mtu - LENGTH_FIELD;
+    l->longest = most < MESSAGE_MOST ? most : MESSAGE_MOST;
+    if (ioctl(l->socket, SIOCGIFFLAGS, &ask) < 0 || (ask.ifr_flags & IFF_UP) == 0)
+        return complain(STATUS_INTERFACE, "%s is down (ip link set %s up)", l->name, l->name);
+    return 0;
+}
+
+static int bind_interface(line *l)
+{
+    struct sockaddr_ll at = {
+        .sll_family = AF_PACKET,
+        .sll_protocol = htons(TYPE),
+        .sll_ifindex = l->index,
+    };
+    if (bind(l->socket, (const struct sockaddr *)&at, sizeof at) == 0)
+        return 0;
+    return complain(STATUS_INTERFACE, "%s cannot be used: %s", l->name, strerror(errno));
+}
+
+static int open_trace(line *l, const char *path)
+{
+    if (path == NULL)
+        return 0;
+    l->trace = fopen(path, "we");
+    if (l->trace != NULL)
+        return 0;
+    return complain(STATUS_FILE, "%s cannot be written: %s", path, strerror(errno));
+}
+
+int line_open(line *l, const line_settings *settings)
+{
+    memset(l, 0, sizeof *l);
+    l->socket = -1;
+    if (settings->interface == NULL)
+        return complain(STATUS_USAGE, "no interface is named: give -i INTERFACE (see --help)");
+    if (strlen(settings->interface) >= IFNAMSIZ)
+        return complain(STATUS_INTERFACE, "no interface is called %s (see: ip link)", settings->interface);
+    memcpy(l->name, settings->interface, strlen(settings->interface) + 1);
+    l->out.drop.n = l->in.drop.n = settings->drop;
+    l->out.twice.n = l->in.twice.n = settings->twice;
+    int status = open_socket(l);
+    if (status == 0)
+        status = ask_interface(l);
+    if (status == 0)
+        status = bind_interface(l);
+    if (status == 0)
+        status = open_trace(l, settings->trace);
+    if (status != 0)
+        line_close(l);
+    return status;
+}
+
+int line_join(line *l)
+{
+    struct packet_mreq group = {
+        .mr_ifindex = l->index,
+        .mr_type = PACKET_MR_MULTICAST,
+        .mr_alen = ADDRESS_LENGTH,
+    };
+    memcpy(group.mr_address, ASSISTANCE, ADDRESS_LENGTH);
+    if (setsockopt(l->socket, SOL_PACKET, PACKET_ADD_MEMBERSHIP, &group, sizeof group) == 0)
+        return 0;
+    return complain(STATUS_INTERFACE, "%s takes no multicast frames: %s", l->name, strerror(errno));
+}
+
+void line_close(line *l)
+{
+    if (l->socket >= 0)
+        close(l->socket);
+    l->socket = -1;
+    if (l->trace != NULL && fclose(l->trace) != 0)
+        complain(STATUS_FILE, "the trace is not complete: %s", strerror(errno));
+    l->trace = NULL;
+}
+
+/* ---- Sending --------------------------------------------------------- */
+
+static bool hit(every *e)
+{
+    if (e->n == 0)
+        return false;
+    e->count = (e->count + 1) % e->n;
+    return e->count == 0;
+}
+
+/* How often a frame goes on: 0, 1 or 2 times. */
+static int times(direction *d)
+{
+    bool lost = hit(&d->drop);
+    bool doubled = hit(&d->twice) && !lost;
+    d->frames += 1;
+    d->lost += lost;
+    d->doubled += doubled;
+    return lost ? 0 : doubled ? 2 : 1;
+}
+
+/* A line of capital hexadecimal, as the program frames reads it. */
+static void note(line *l, const uint8_t *message, size_t length)
+{
+    if (l->trace == NULL)
+        return;
+    for (size_t i = 0; i < length; i++)
+        fprintf(l->trace, "%02X", message[i]);
+    fputc('\n', l->trace);
+}
+
+static int put(line *l, const uint8_t *frame, size_t length)
+{
+    if (send(l->socket, frame, length, 0) >= 0 || errno == ENOBUFS || errno == EAGAIN)
+        return 0;
+    return complain(STATUS_INTERFACE, "%s does not send: %s", l->name, strerror(errno));
+}
+
+int line_send(line *l, const uint8_t *to, const uint8_t *message, size_t length)
+{
+    uint8_t frame[LONGEST] = {0};
+    if (length > l->longest)
+        return complain(STATUS_INTERFACE, "a message of %zu bytes is too long for %s, which takes %u", length,
+            l->name, (unsigned)l->longest);
+    memcpy(frame, to, ADDRESS_LENGTH);
+    memcpy(frame + ADDRESS_LENGTH, l->address, ADDRESS_LENGTH);
+    frame[12] = TYPE >> 8;
+    frame[13] = TYPE & 0xFF;
+    frame[HEADER] = (uint8_t)(length & 0xFF);
+    frame[HEADER + 1] = (uint8_t)(length >> 8);
+    memcpy(frame + HEADER + LENGTH_FIELD, message, length);
+    size_t whole = HEADER + LENGTH_FIELD + length;
+    int status = 0;
+    for (int n = times(&l->out); n > 0 && status == 0; n--) {
+        note(l, message, length);
+        status = put(l, frame, whole < SHORTEST ? SHORTEST : whole);
+    }
+    return status;
+}
+
+/* ---- Receiving ------------------------------------------------------- */
+
+/* Whether raw bytes are a message for this end; then they are cut out. */
+static bool cut(const line *l, const uint8_t *raw, size_t length, line_frame *frame)
+{
+    if (length < HEADER + LENGTH_FIELD || raw[12] != TYPE >> 8 || raw[13] != (TYPE & 0xFF))
+        return false;
+    frame->multicast = memcmp(raw, ASSISTANCE, ADDRESS_LENGTH) == 0;
+    if (!frame->multicast && memcmp(raw, l->address, ADDRESS_LENGTH) != 0)
+        return false;
+    memcpy(frame->from, raw + ADDRESS_LENGTH, ADDRESS_LENGTH);
+    if (memcmp(frame->from, l->address, ADDRESS_LENGTH) == 0)
+        return false;
+    frame->length = raw[HEADER] + ((size_t)raw[HEADER + 1] << 8);
+    if (frame->length > MESSAGE_MOST || frame->length > length - HEADER - LENGTH_FIELD)
+        return false;
+    memcpy(frame->bytes, raw + HEADER + LENGTH_FIELD, frame->length);
+    return true;
+}
+
+/* Takes one frame from the socket: LINE_FRAME if it is for this end and not
+ * lost, LINE_QUIET if there is none such. */
+static line_event take(line *l, line_frame *frame)
+{
+    uint8_t raw[LONGEST + 1];
+    struct sockaddr_ll from = {0};
+    socklen_t size = sizeof from;
+    ssize_t got = recvfrom(l->socket, raw, sizeof raw, MSG_DONTWAIT, (struct sockaddr *)&from, &size);
+    if (got < 0 && (errno == EAGAIN || errno == EINTR))
+        return LINE_QUIET;
+    if (got < 0) {
+        complain(STATUS_INTERFACE, "%s does not receive: %s", l->name, strerror(errno));
+        return LINE_BROKEN;
+    }
+    if (from.sll_pkttype == PACKET_OUTGOING || !cut(l, raw, (size_t)got, frame))
+        return LINE_QUIET;
+    note(l, frame->bytes, frame->length);
+    int n = times(&l->in);
+    l->again = n == 2;
+    if (l->again)
+        l->last = *frame;
+    return n == 0 ? LINE_QUIET : LINE_FRAME;
+}
+
+/* Waits until there is something to take. */
+static line_event await(const line *l, int64_t deadline)
+{
+    int64_t left = deadline - clock_now();
+    left = left < 0 ? 0 : left;
+    struct timespec limit = {.tv_sec = left / 1000, .tv_nsec = left % 1000 * 1000000};
+    struct pollfd ready = {.fd = l->socket, .events = POLLIN};
+    int n = ppoll(&ready, 1, &limit, &signals_let_in);
+    if (signals_came())
+        return LINE_SIGNAL;
+    return n > 0 ? LINE_FRAME : LINE_QUIET;
+}
+
+line_event line_receive(line *l, line_frame *frame, int64_t deadline)
+{
+    if (l->again) {
+        *frame = l->last;
+        l->again = false;
+        return LINE_FRAME;
+    }
+    for (;;) {
+        line_event event = await(l, deadline);
+        if (event == LINE_FRAME)
+            event = take(l, frame);
+        if (event != LINE_QUIET || clock_now() >= deadline)
+            return event;
+    }
+}

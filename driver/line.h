@@ -1,0 +1,85 @@
+/* line.h: MOP messages over Ethernet (type 60-01). Framing only: a message
+ * goes out behind its 2-byte length, padded to 60 bytes, and one that comes
+ * in is cut by that length. Nothing here reads a message. */
+#ifndef LINE_H
+#define LINE_H
+
+#include <net/if.h>
+#include <stdbool.h>
+#include <stddef.h>
+#include <stdint.h>
+#include <stdio.h>
+
+#define ADDRESS_LENGTH 6
+#define ADDRESS_TEXT 18 /* 08-00-2B-AA-BB-CC and its end */
+#define MESSAGE_MOST 1500
+#define LENGTH_FIELD 2
+
+/* AB-00-00-01-00-00, to which a machine sends its request */
+extern const uint8_t ASSISTANCE[ADDRESS_LENGTH];
+
+/* Every nth frame is hit; none if n is 0. */
+typedef struct every {
+    uint32_t n;
+    uint32_t count;
+} every;
+
+typedef struct direction {
+    every drop;
+    every twice;
+    uint64_t frames;
+    uint64_t lost;
+    uint64_t doubled;
+} direction;
+
+typedef struct line_frame {
+    uint8_t bytes[MESSAGE_MOST];
+    size_t length;
+    uint8_t from[ADDRESS_LENGTH];
+    bool multicast; /* to ASSISTANCE, else to this end alone */
+} line_frame;
+
+typedef struct line {
+    int socket;
+    int index;
+    uint32_t longest; /* the longest message that the interface takes */
+    uint8_t address[ADDRESS_LENGTH];
+    char name[IFNAMSIZ];
+    direction out;
+    direction in;
+    line_frame last; /* handed over once more if again is set */
+    bool again;
+    FILE *trace;
+} line;
+
+/* What all programs on the line are told. */
+typedef struct line_settings {
+    const char *interface;
+    const char *trace;
+    uint32_t drop;
+    uint32_t twice;
+} line_settings;
+
+typedef enum line_event { LINE_FRAME, LINE_QUIET, LINE_SIGNAL, LINE_BROKEN } line_event;
+
+/* Both give 0, or an exit status once they have said what is wrong. */
+int line_open(line *l, const line_settings *settings);
+int line_join(line *l); /* also take frames to ASSISTANCE */
+
+void line_close(line *l);
+
+/* One message to an address: 0, or an exit status as above. A frame that the
+ * interface has no room for counts as sent: the line may lose frames. */
+int line_send(line *l, const uint8_t *to, const uint8_t *message, size_t length);
+
+/* The next message for this end, until the clock shows the deadline. */
+line_event line_receive(line *l, line_frame *frame, int64_t deadline);
+
+/* Milliseconds of a clock that never goes back. */
+int64_t clock_now(void);
+
+/* Interrupt, hangup and termination end line_receive, and nothing else. */
+void signals_catch(void);
+bool signals_came(void);
+
+#endif

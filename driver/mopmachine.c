@@ -1,0 +1,287 @@
+/* mopmachine: the machine end as a process, for rehearsals and tests. The
+ * library decides what it does; this program carries frames and keeps the
+ * memory. */
+#include <inttypes.h>
+#include <stdlib.h>
+#include <string.h>
+
+#include "files.h"
+#include "line.h"
+#include "options.h"
+#include "words.h"
+
+#define MEMORY_MOST 16777216
+#define DUMP_MOST 1493 /* code 14 with more is above the Ethernet limit */
+#define DUMP_REST 5    /* what code 14 has beside the data */
+#define CODE_VOLUNTEER 3
+#define ASKS 8 /* requests to one host without an answer, before all are asked again */
+
+enum { IDLE, OFFERING, REQUESTING, LOADING, STARTED };
+enum { OPTION_MEMORY = OPTION_OWN, OPTION_OFFER, OPTION_FILL, OPTION_SAVE, OPTION_DEVICE, OPTION_PROCESSOR };
+
+typedef struct machine_end {
+    common_settings common;
+    mop_machine_settings settings;
+    mop_machine machine;
+    contents memory;
+    const char *fill;
+    const char *save;
+    bool offer;
+    uint8_t host[ADDRESS_LENGTH]; /* whom it asks, ASSISTANCE for all */
+    unsigned asked;               /* how often without an answer */
+    line line;
+    int64_t due;   /* when the timer runs out */
+    int64_t limit; /* when it is taken that nobody is there */
+} machine_end;
+
+/* ---- The run --------------------------------------------------------- */
+
+static bool asks(const machine_end *m)
+{
+    return m->machine.state == REQUESTING || m->machine.state == OFFERING;
+}
+
+/* Takes over the state of a step and sends its frame. */
+static int carry(machine_end *m, mop_machine_step step, const uint8_t *reply)
+{
+    if (step.answer.refusal > 4)
+        return complain(STATUS_OTHER, "the step is refused: %s", refusal_words(step.answer.refusal));
+    m->machine = step.machine;
+    if (step.answer.length == 0)
+        return 0;
+    return line_send(&m->line, m->host, reply, step.answer.length);
+}
+
+/* The first frame of a load or of a dump. */
+static int start(machine_end *m)
+{
+    uint8_t reply[MESSAGE_MOST];
+    mop_machine_step step = m->offer
+        ? mop_machine_start_dump(m->settings, m->memory.bytes, m->memory.length, reply, sizeof reply)
+        : mop_machine_start_load(m->settings, m->memory.bytes, m->memory.length, reply, sizeof reply);
+    memcpy(m->host, ASSISTANCE, ADDRESS_LENGTH);
+    m->due = clock_now() + m->common.timer;
+    return carry(m, step, reply);
+}
+
+static int timer(machine_end *m)
+{
+    uint8_t reply[MESSAGE_MOST];
+    m->due = clock_now() + m->common.timer;
+    m->asked += 1;
+    if (asks(m) && m->asked > ASKS)
+        memcpy(m->host, ASSISTANCE, ADDRESS_LENGTH);
+    mop_machine_step step = mop_machine_timer(
+        m->settings, m->machine, m->memory.bytes, m->memory.length, reply, sizeof reply);
+    return carry(m, step, reply);
+}
+
+/* A host has offered itself: it is asked from now on, and at once. */
+static int volunteer(machine_end *m, const line_frame *frame)
+{
+    char host[ADDRESS_TEXT];
+    memcpy(m->host, frame->from, ADDRESS_LENGTH);
+    m->asked = 0;
+    printf("%s offers assistance.\n", address_text(m->host, host));
+    fflush(stdout);
+    return timer(m);
+}
+
+static int take(machine_end *m, const line_frame *frame)
+{
+    uint8_t reply[MESSAGE_MOST];
+    bool free_to_choose = memcmp(m->host, ASSISTANCE, ADDRESS_LENGTH) == 0;
+    if (frame->multicast)
+        return 0;
+    if (free_to_choose && asks(m) && mop_read(frame->bytes, frame->length).code == CODE_VOLUNTEER)
+        return volunteer(m, frame);
+    if (memcmp(frame->from, m->host, ADDRESS_LENGTH) != 0)
+        return 0;
+    m->asked = 0;
+    m->limit = clock_now() + (int64_t)m->common.wait * 1000;
+    mop_machine_step step = mop_machine_frame(m->settings, m->machine, frame->bytes, frame->length, m->memory.bytes,
+        m->memory.length, reply, sizeof reply);
+    return carry(m, step, reply);
+}
+
+/* The timer, or the end of the wait. */
+static int silence(machine_end *m)
+{
+    if (clock_now() < m->limit)
+        return timer(m);
+    return complain(STATUS_SILENT, "no host was heard for %" PRIu32 " seconds; the machine is %s", m->common.wait,
+        state_words(m->machine.state));
+}
+
+static bool over(const machine_end *m)
+{
+    return m->machine.state == (m->offer ? IDLE : STARTED);
+}
+
+static int run(machine_end *m)
+{
+    line_frame frame;
+    m->limit = clock_now() + (int64_t)m->common.wait * 1000;
+    int status = start(m);
+    while (status == 0 && !over(m)) {
+        switch (line_receive(&m->line, &frame, m->due < m->limit ? m->due : m->limit)) {
+        case LINE_FRAME:
+            status = take(m, &frame);
+            break;
+        case LINE_QUIET:
+            status = silence(m);
+            break;
+        case LINE_SIGNAL:
+            status = complain(STATUS_INTERRUPTED, "interrupted by a signal");
+            break;
+        default:
+            status = STATUS_INTERFACE;
+        }
+    }
+    return status;
+}
+
+/* ---- The command line ------------------------------------------------ */
+
+static const char manual[] =
+    "NAME\n"
+    "  mopmachine - be a machine that asks for a program or offers a dump\n"
+    "\n"
+    "SYNOPSIS\n"
+    "  mopmachine -i INTERFACE --memory N [--offer] [--fill FILE] [--save FILE]\n"
+    "             [-D N] [--timer MS] [--wait S] [--trace FILE]\n"
+    "\n"
+    "DESCRIPTION\n"
+    "  The machine end as a process, to rehearse a shift without the machine. It\n"
+    "  asks all hosts for a program (or, with --offer, offers a dump), then the\n"
+    "  host that answers, and ends when it is started (or the dump is complete).\n"
+    "\n"
+    "OPTIONS\n"
+    "  --memory N\n"
+    "        Bytes of memory, up to 16777216.\n"
+    "  --offer\n"
+    "        Offer a dump and not ask for a program.\n"
+    "  --fill FILE\n"
+    "        What the memory holds at first, from address 0 on; the rest is 0.\n"
+    "  --save FILE\n"
+    "        Write the memory to FILE at the end, however it ends.\n"
+    "  -D N, --dump-most N\n"
+    "        Bytes of a dump reply at most, 1 to 1493. Default 1024.\n"
+    "  --device N, --processor N\n"
+    "        What it says it is, 0 to 255. Default 0.\n";
+
+static void help(void)
+{
+    fputs(manual, stdout);
+    common_help(stdout, "a host to be heard");
+    words_statuses(stdout, STATUS_FINISHED, STATUS_OTHER);
+    words_statuses(stdout, STATUS_SILENT, STATUS_PERMISSION);
+    words_statuses(stdout, STATUS_FILE, STATUS_FILE);
+}
+
+static int small_byte(const char *name, const char *value, uint8_t *byte)
+{
+    uint32_t number = 0;
+    int status = option_small(name, value, 0, 255, &number);
+    *byte = (uint8_t)number;
+    return status;
+}
+
+static int option(int c, const char *value, machine_end *m)
+{
+    uint64_t bytes = 0;
+    int status = 0;
+    switch (c) {
+    case OPTION_MEMORY:
+        status = option_number("--memory", value, 1, MEMORY_MOST, &bytes);
+        m->memory.length = (size_t)bytes;
+        return status;
+    case OPTION_OFFER:
+        m->offer = true;
+        return 0;
+    case OPTION_FILL:
+        m->fill = value;
+        return 0;
+    case OPTION_SAVE:
+        m->save = value;
+        return 0;
+    case 'D':
+        return option_small("-D", value, 1, DUMP_MOST, &m->settings.dump_most);
+    case OPTION_DEVICE:
+        return small_byte("--device", value, &m->settings.device);
+    case OPTION_PROCESSOR:
+        return small_byte("--processor", value, &m->settings.processor);
+    case 'h':
+        help();
+        exit(STATUS_FINISHED);
+    case '?':
+        return complain(STATUS_USAGE, "see --help");
+    default:
+        return common_option(c, value, &m->common);
+    }
+}
+
+static int options(int count, char **words, machine_end *m)
+{
+    static const struct option known[] = {LINE_OPTIONS, {"memory", required_argument, NULL, OPTION_MEMORY},
+        {"offer", no_argument, NULL, OPTION_OFFER}, {"fill", required_argument, NULL, OPTION_FILL},
+        {"save", required_argument, NULL, OPTION_SAVE}, {"dump-most", required_argument, NULL, 'D'},
+        {"device", required_argument, NULL, OPTION_DEVICE},
+        {"processor", required_argument, NULL, OPTION_PROCESSOR}, {NULL, 0, NULL, 0}};
+    for (int c = 0; (c = getopt_long(count, words, "i:D:h", known, NULL)) != -1;) {
+        int status = option(c, optarg, m);
+        if (status != 0)
+            return status;
+    }
+    if (optind != count)
+        return complain(STATUS_USAGE, "'%s' is too much (see --help)", words[optind]);
+    if (m->memory.length == 0)
+        return complain(STATUS_USAGE, "give --memory N (see --help)");
+    return 0;
+}
+
+static int fill(machine_end *m)
+{
+    contents first = {NULL, 0};
+    m->memory.bytes = calloc(m->memory.length, 1);
+    if (m->memory.bytes == NULL)
+        return complain(STATUS_OTHER, "no room for the memory");
+    if (m->fill == NULL)
+        return 0;
+    int status = file_read(m->fill, m->memory.length, &first);
+    if (status == 0)
+        memcpy(m->memory.bytes, first.bytes, first.length);
+    free(first.bytes);
+    return status;
+}
+
+static int on_the_line(machine_end *m)
+{
+    int status = line_open(&m->line, &m->common.line);
+    if (status != 0)
+        return status;
+    if (m->settings.dump_most + DUMP_REST > m->line.longest)
+        m->settings.dump_most = m->line.longest - DUMP_REST;
+    status = run(m);
+    line_close(&m->line);
+    if (m->machine.state == STARTED)
+        printf("Started at 0x%08" PRIX32 ".\n", m->machine.transfer);
+    else
+        printf("The machine is %s.\n", state_words(m->machine.state));
+    int saved = m->save == NULL ? 0 : file_write(m->save, m->memory.bytes, m->memory.length);
+    return status == 0 ? saved : status;
+}
+
+int main(int count, char **words)
+{
+    static machine_end m = {.common = {.timer = 2000, .wait = 600}, .settings = {.dump_most = 1024}};
+    words_program("mopmachine");
+    int status = options(count, words, &m);
+    signals_catch();
+    if (status == 0)
+        status = fill(&m);
+    if (status == 0)
+        status = on_the_line(&m);
+    free(m.memory.bytes);
+    return status;
+}

@@ -1,0 +1,41 @@
+/* options.h: what the command lines of the programs share. */
+#ifndef OPTIONS_H
+#define OPTIONS_H
+
+#include <getopt.h>
+#include <stdbool.h>
+#include <stdint.h>
+
+#include "line.h"
+
+/* The numbers of the long options that all programs on the line have. */
+enum { OPTION_TIMER = 256, OPTION_WAIT, OPTION_DROP, OPTION_DOUBLE, OPTION_TRACE, OPTION_OWN };
+
+#define LINE_OPTIONS                                                                                                \
+    {"interface", required_argument, NULL, 'i'}, {"timer", required_argument, NULL, OPTION_TIMER},                  \
+        {"wait", required_argument, NULL, OPTION_WAIT}, {"drop", required_argument, NULL, OPTION_DROP},             \
+        {"double", required_argument, NULL, OPTION_DOUBLE}, {"trace", required_argument, NULL, OPTION_TRACE},       \
+        {"help", no_argument, NULL, 'h'}
+
+typedef struct common_settings {
+    line_settings line;
+    uint32_t timer; /* milliseconds */
+    uint32_t wait;  /* seconds */
+} common_settings;
+
+/* Takes an option that all have: 0, an exit status, or -1 for another's. */
+int common_option(int option, const char *value, common_settings *settings);
+
+/* What they are, for --help. */
+void common_help(FILE *out, const char *waits_for);
+
+/* A number in decimal, hexadecimal (0x..) or octal (0o..), between two
+ * bounds: 0, or an exit status with the reason said. */
+int option_number(const char *name, const char *text, uint64_t least, uint64_t most, uint64_t *number);
+int option_small(const char *name, const char *text, uint32_t least, uint32_t most, uint32_t *number);
+
+/* An Ethernet address, six pairs of digits with - or : between. */
+int option_address(const char *name, const char *text, uint8_t *address);
+const char *address_text(const uint8_t *address, char text[ADDRESS_TEXT]);
+
+#endif

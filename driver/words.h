@@ -1,0 +1,52 @@
+/* words.h: what the library's numbers mean, in words, and the programs' exit
+ * statuses. */
+#ifndef WORDS_H
+#define WORDS_H
+
+#include <stdint.h>
+#include <stdio.h>
+
+#include "mop.h"
+
+typedef enum status {
+    STATUS_FINISHED = 0,
+    STATUS_OTHER = 1,
+    STATUS_REJECTED = 2,
+    STATUS_GIVEN_UP = 3,
+    STATUS_UNCONFIRMED = 4,
+    STATUS_SILENT = 5,
+    STATUS_INTERRUPTED = 6,
+    STATUS_USAGE = 10,
+    STATUS_INTERFACE = 11,
+    STATUS_PERMISSION = 12,
+    STATUS_IMAGE = 13,
+    STATUS_FILE = 14
+} status;
+
+/* The program's name, for complain. */
+void words_program(const char *name);
+
+/* Prints a sentence on standard error and gives the status back. */
+int complain(int status, const char *format, ...) __attribute__((format(printf, 2, 3)));
+
+/* The table of exit statuses, for --help: those from first to last. */
+void words_statuses(FILE *out, int first, int last);
+
+/* Why the library refused: one of the numbers of mop.h. */
+const char *refusal_words(uint8_t refusal);
+
+/* What a request program asks for: 0, 1, 2. */
+const char *program_words(uint8_t type);
+
+/* A machine's state: 0 to 4. */
+const char *state_words(uint8_t state);
+
+/* A verdict's name (0 to 4), and the exit status of it. */
+const char *verdict_words(uint8_t verdict);
+int verdict_status(uint8_t verdict);
+
+/* What a verdict means for the machine's memory, in whole sentences. */
+void load_words(FILE *out, const mop_load *session, const mop_image *image);
+void dump_words(FILE *out, const mop_dump *session, const mop_dump_settings *settings);
+
+#endif

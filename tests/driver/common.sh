@@ -1,0 +1,70 @@
+# Shared by the tests of the line driver. Each runs in a network namespace of its own, which ends with it: no interface
+# outside is touched. A test that cannot run here ends with status 77, skipped.
+
+self=$(realpath "$0")
+cd "$(dirname "${BASH_SOURCE[0]}")/../.." || exit 1
+programs=${DRIVER_PROGRAMS:-$PWD/target/driver}
+here=$PWD/tests/driver
+
+skip() {
+    echo "$(basename "$0"): skipped: $*"
+    exit 77
+}
+
+# Runs this script again inside a new namespace.
+own_namespace() {
+    [ "${KOCHIPURN_NAMESPACE:-}" = "$$" ] && return
+    local way="unshare -n"
+    [ "$(id -u)" = 0 ] || way="unshare -rn"
+    $way true 2>/dev/null || skip "no network namespace can be made here"
+    export KOCHIPURN_NAMESPACE=$$
+    # exec keeps the process number
+    exec $way bash "$self" "$@"
+}
+
+# A pair of interfaces with a line between: vhost and vmachine.
+own_line() {
+    ip link add vhost type veth peer name vmachine || skip "no veth pair can be made here"
+    for name in vhost vmachine; do
+        [ -e "/proc/sys/net/ipv6/conf/$name/disable_ipv6" ] && echo 1 >"/proc/sys/net/ipv6/conf/$name/disable_ipv6"
+        ip link set "$name" up
+    done
+}
+
+passed=0
+failed=0
+work=$(mktemp -d)
+trap 'rm -rf "$work"' EXIT
+
+# check NAME COMMAND..: one case.
+check() {
+    local name=$1
+    shift
+    if "$@" >"$work/case.out" 2>&1; then
+        passed=$((passed + 1))
+    else
+        failed=$((failed + 1))
+        echo "FAILED: $name"
+        tail -n 25 "$work/case.out"
+    fi
+}
+
+summary() {
+    echo "$(basename "$0"): $passed passed, $failed failed"
+    [ "$failed" = 0 ]
+}
+
+# bytes N: as many, always the same ones.
+bytes() {
+    seq 1 9999999 | head -c "$1"
+}
+
+# after FILE TEXT: waits until the text stands in the file, 10 seconds at most. The file of an earlier case must be gone.
+after() {
+    for _ in $(seq 1000); do
+        grep -qs -- "$2" "$1" && return 0
+        sleep 0.01
+    done
+    echo "'$2' did not come in $1"
+    return 1
+}
