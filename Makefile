@@ -6,9 +6,9 @@ CC11    = gcc -std=c11 $(WARN) -O2 -Iinclude
 CC99    = gcc -std=c99 $(WARN) -O2 -Iinclude
 OUT     = target/tests
 LIB     = target/staticlib/libmop.a
-FILE   ?= examples/frames.txt
+SOURCES = $(shell find crates -name '*.rt' -o -name '*.antt') crates.txt
 
-.PHONY: test run lib compare compare-rehearsal bench needs header layout examples guards sanitize lint driver driver-test line-bench simh
+.PHONY: test run explain frames lib compare compare-rehearsal bench needs header layout examples guards sanitize lint driver driver-test line-bench simh
 
 # rt ci begins by removing target/, so it comes first; its last line is repeated at the end where all else passed.
 test: needs
@@ -17,18 +17,24 @@ test: needs
 needs:
 	@for tool in rt gcc rustc; do command -v $$tool >/dev/null || { echo "make: '$$tool' is needed and is not installed"; exit 1; }; done
 
-run: target/bin/frames
-	@target/bin/frames < $(FILE)
+# The rehearsal, the same with words beside it, and captured frames decoded; FILE=.. gives another input.
+run: target/bin/rehearsal
+explain: target/bin/explain
+frames: target/bin/frames
+run explain: FILE ?= examples/first.txt
+frames: FILE ?= examples/frames.txt
+run explain frames:
+	@$< < $(FILE)
 
-target/bin/frames: $(shell find crates -name '*.rt' -o -name '*.antt') crates.txt
-	rt check frames >/dev/null
-
-target/bin/rehearsal: $(shell find crates -name '*.rt' -o -name '*.antt') crates.txt
-	rt check rehearsal >/dev/null
+target/bin/%: $(SOURCES)
+	@mkdir -p target
+	@echo "make: proving and building $*, which takes minutes the first time (target/$*.log)" >&2
+	@rt check $* >target/$*.log 2>&1 || { cat target/$*.log; exit 1; }
+	@touch $@
 
 lib: $(LIB)
 
-$(LIB): $(shell find crates -name '*.rt' -o -name '*.antt') crates.txt
+$(LIB): $(SOURCES)
 	rt staticlib mop >/dev/null
 
 $(OUT)/libmop_plain.rlib: $(wildcard tests/independent/*.rs)
@@ -166,7 +172,7 @@ $(DRIVER)/probe: tests/driver/probe.c $(PARTS:%=$(DRIVER)/%.o) $(LIB)
 
 # The simulator whose boot ROM the driver is tested with; without it that test is skipped.
 simh:
-	@command -v pdp11 >/dev/null || apt-get install -y simh >/dev/null 2>&1 || echo "make: the package simh cannot be had"
+	@command -v pdp11 >/dev/null || DEBIAN_FRONTEND=noninteractive timeout 120 apt-get install -y simh </dev/null >/dev/null 2>&1 || echo "make: the package simh cannot be had"
 
 # The speed of a load over a line in memory.
 line-bench: driver
