@@ -1,0 +1,4 @@
+pub mod Script
+pub mod Inner
+pub mod Laws
+pub mod Answers
