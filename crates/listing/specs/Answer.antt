@@ -117,11 +117,6 @@ piece-most c v k =
     P : List ℕ → Type 0
     P l = length l ≤ 24
 
-pub row-most : (p : List ℕ) → length (row p) ≤ length p
-unfolding row
-row-most [] = omega arith
-row-most (c ∷ rest) = let h = row-most rest in either (eqb c 10) (λ (l : List ℕ). length l ≤ suc (length rest)) (omega arith) (omega arith)
-
 pub composed-most : (p v : List ℕ) (k : ℕ) → length (composed [] p v k) ≤ 24 * length p
 unfolding composed
 composed-most [] v k = omega arith

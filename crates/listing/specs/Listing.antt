@@ -18,7 +18,7 @@ use Rattle.listing.specs.Cases.{either, by-test}
 use Rattle.listing.specs.Text.{chars, pairs, text}
 use Rattle.listing.specs.Hexadecimal.{Decoded, notHexadecimal, frame, isDigit, hexadecimal}
 use Rattle.listing.specs.Line.{decoded}
-use Rattle.listing.specs.Pattern.{Added, composed, row}
+use Rattle.listing.specs.Pattern.{Added, composed, skip, row}
 use Rattle.listing.specs.Over.{length-over, over-append}
 use Rattle.listing.specs.Answer.{length-pairs}
 use Rattle.listing.specs.Run.{Held, stepped, run, opened, ended, capped, run-decoded}
@@ -84,15 +84,15 @@ module _ (head s tail out : List ℕ) (h : length head + (2 * length s + length 
         let w = placed-whole whole out (omega (arith, third .0, second .0, first .0, length-pairs s)) in
         (ap written (sym size) ∙ w .0, e₃ ∙ (rw (append-assoc head (pairs s) tail, zero-add)) ∙ w .1)
 
--- a pattern with its marks filled by numbers, from number 1 on
-abbrev pub filling : List ℕ → List ℕ → List ℕ
-filling pattern v = composed [] (row pattern) v 1
+-- row k of a table with its marks filled by numbers, from number 1 on
+abbrev pub filling : List ℕ → ℕ → List ℕ → List ℕ
+filling table k v = composed [] (row (skip k table)) v 1
 
--- the same, then bytes in hexadecimal, then a text, laid into a buffer; 9 also for a pattern above 130 characters
-abbrev pub sentenced : List ℕ → List ℕ → List ℕ → List ℕ → List ℕ → Output
-sentenced pattern v s tail out =
-    pick (ltb 130 (length pattern)) (refuse 9 out)
-    (placed (filling pattern v ++ (pairs s ++ tail)) out)
+-- the same, then bytes in hexadecimal, then a text, laid into a buffer; 9 also for a row above 130 characters
+abbrev pub sentenced : List ℕ → ℕ → List ℕ → List ℕ → List ℕ → List ℕ → Output
+sentenced table k v s tail out =
+    pick (ltb 130 (length (row (skip k table)))) (refuse 9 out)
+    (placed (filling table k v ++ (pairs s ++ tail)) out)
 
 -- What one character of the input does, and what is printed then.
 pub record Turn : Type 0 where

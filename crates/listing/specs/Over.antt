@@ -175,6 +175,19 @@ pub composed-none : (s t v : List ℕ) (i k : ℕ) → length t ≤ i → compos
 unfolding composed row
 composed-none s t v i k h = rw (drop-of-length-le t {i = i} h)
 
+-- a row's length, character by character
+pub row-next : (t : List ℕ) (i : ℕ) → i < length t → (getD t i 0 ≡ 10 → ⊥) → length (row (drop i t)) ≡ length (row (drop (i + 1) t)) + 1
+unfolding row
+row-next t i h n = rw (add-one i, drop-cons t i 0 h, ne-eqb (getD t i 0) 10 n) (omega arith)
+
+pub row-feed : (t : List ℕ) (i : ℕ) → i < length t → getD t i 0 ≡ 10 → length (row (drop i t)) ≡ 0
+unfolding row
+row-feed t i h e = rw (drop-cons t i 0 h, e)
+
+pub row-none : (t : List ℕ) (i : ℕ) → length t ≤ i → length (row (drop i t)) ≡ 0
+unfolding row
+row-none t i h = rw (drop-of-length-le t {i = i} h)
+
 -- rows passed
 pub skip-next : (t : List ℕ) (i left : ℕ) → i < length t → (left ≡ 0 → ⊥) → skip (leftAfter (getD t i 0) left) (drop (i + 1) t) ≡ skip left (drop i t)
 unfolding skip

@@ -276,6 +276,22 @@ fn row_at(table: &[u8], k: usize) -> usize
     i
 }
 
+// The length of the row that begins at a place of a table.
+fn row_length(table: &[u8], from: usize) -> usize
+    ensures { λ r. ⌜ r ≡ length (row (drop from (now (table .entry)))) ⌝ }
+{
+    let mut i = from;
+    let mut n = 0;
+    while i < table.len() {
+        if table[i] == b'\n' {
+            return n;
+        }
+        n += 1;
+        i += 1;
+    }
+    n
+}
+
 // Writes the pattern that begins at a place of a table, with the values in the places of its marks, from number 1 on.
 fn fill(s: &[u8], table: &[u8], from: usize, v: &[usize], out: &mut [u8]) -> usize
     requires { ⌜ length (composed (now s) (row (drop from (now table))) (now v) 1) ≤ length (now out) ⌝ }
@@ -475,12 +491,20 @@ pub fn show(s: &[u8], out: &mut [u8]) -> Written
     place(&space[..end], out)
 }
 
-// A pattern's first row with its marks filled from number 1 on, # by a number and @ by an address; then bytes in hexadecimal, then
-// a text. Refusal 9 for a buffer that is too short, or a pattern above 130 characters.
-pub fn sentence(pattern: &[u8], v: &[usize], s: &[u8], tail: &[u8], out: &mut [u8]) -> Written
-    ensures { λ r. ⌜ Came (sentenced (now (pattern .entry)) (now (v .entry)) (now (s .entry)) (now (tail .entry)) (now (out .entry))) r (now (out .exit)) ⌝ }
+// Row k of a table with its marks filled from number 1 on, # by a number and @ by an address; then bytes in hexadecimal, then a
+// text. Refusal 9 for a buffer that is too short, or a row above 130 characters.
+pub fn sentence(
+    table: &[u8],
+    k: usize,
+    v: &[usize],
+    s: &[u8],
+    tail: &[u8],
+    out: &mut [u8],
+) -> Written
+    ensures { λ r. ⌜ Came (sentenced (now (table .entry)) k (now (v .entry)) (now (s .entry)) (now (tail .entry)) (now (out .entry))) r (now (out .exit)) ⌝ }
 {
-    if 130 < pattern.len() {
+    let from = row_at(table, k);
+    if 130 < row_length(table, from) {
         return Written {
             length: 0,
             refusal: 9,
@@ -488,7 +512,7 @@ pub fn sentence(pattern: &[u8], v: &[usize], s: &[u8], tail: &[u8], out: &mut [u
     }
     let none = [0u8; 0];
     let mut space = [0u8; 3300];
-    let n = fill(&none, pattern, 0, v, &mut space);
+    let n = fill(&none, table, from, v, &mut space);
     print(&space[..n], s, tail, out)
 }
 
