@@ -78,15 +78,15 @@ fn to_machine(
     let place = &host_places[at][..];
     let n = least(queue::length(waiting), place.len());
     let mut reply = [0u8; 1500];
-    let stepped = machine::frame(
-        setup.machine,
-        ends.machine,
-        &place[..n],
-        memory,
-        &mut reply,
-    );
+    let stepped = machine::frame(setup.machine, ends.machine, &place[..n], memory, &mut reply);
     let length = least(stepped.answer.length, 1500);
-    let sent = deliver(setup, false, &reply[..length], ends.from_machine, machine_places);
+    let sent = deliver(
+        setup,
+        false,
+        &reply[..length],
+        ends.from_machine,
+        machine_places,
+    );
     let machine = stepped.machine;
     let mut next = ends;
     next.machine = machine;
@@ -295,7 +295,14 @@ fn play(
 ) {
     let mut space = [0u8; 4096];
     let n = least(script.memory, 4096);
-    let ends = run(setup, letters, file, &mut space[..n], host_places, machine_places);
+    let ends = run(
+        setup,
+        letters,
+        file,
+        &mut space[..n],
+        host_places,
+        machine_places,
+    );
     finish(setup, ends, &space[..n]);
 }
 

@@ -15,7 +15,7 @@ lacks-requires : tie.Need-lacks-requires
 lacks-requires c κs = search needs
 
 returns : tie.Need-returns
-returns c = 
+returns c =
     let a = c .before .before .before .before .before .before .args in
     let h = ltb-true (length (a .out .now)) (length (a .head .now) + (2 * length (a .s .now) + length (a .tail .now))) (sym (c .before .lacks .ensures) ∙ c .if1 .taken) in
     placed-short (a .head .now ++ (pairs (a .s .now) ++ a .tail .now)) (a .out .now) (simp length-append (omega (arith, length-pairs (a .s .now))))

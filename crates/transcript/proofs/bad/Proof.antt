@@ -22,7 +22,7 @@ same-length : tie.Need-same-length
 same-length c = search needs
 
 returns : tie.Need-returns
-returns c = rw (bad-filled (c .before .before .before .before .before .before .before .before .before .args .refusal)) at (c .before .before .sentence .ensures)
+returns c = bad-filled (c .before .before .before .before .before .before .before .before .before .args .refusal) (c .before .before .before .before .before .before .before .before .before .args .out .now) (c .before .before .sentence .ensures)
 
 pub bad-spec : {M : Type 1} → statement M
 bad-spec =

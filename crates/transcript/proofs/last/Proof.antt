@@ -21,7 +21,7 @@ same-length c = search needs
 returns : tie.Need-returns
 returns c =
     let a = c .before .before .before .before .before .before .before .before .before .before .args in
-    rw (last-started (a .verdict) (a .sent) (a .started) (a .transfer) (a .memory .now) (c .before .before .before .before .before .before .before .if1 .taken)) at (c .before .before .sentence .ensures)
+    last-started (a .verdict) (a .sent) (a .started) (a .transfer) (a .memory .now) (a .out .now) (c .before .before .before .before .before .before .before .if1 .taken) (c .before .before .sentence .ensures)
 
 slice-aggregate-sentence-4 : tie.Need-slice-aggregate-sentence-4
 slice-aggregate-sentence-4 c = search needs
@@ -41,7 +41,7 @@ same-length-2 c = search needs
 returns-2 : tie.Need-returns-2
 returns-2 c =
     let a = c .before .before .before .before .before .before .before .before .before .before .args in
-    rw (last-other (a .verdict) (a .sent) (a .started) (a .transfer) (a .memory .now) (c .before .before .before .before .before .before .before .if1 .left)) at (c .before .before .sentence2 .ensures)
+    last-other (a .verdict) (a .sent) (a .started) (a .transfer) (a .memory .now) (a .out .now) (c .before .before .before .before .before .before .before .if1 .left) (c .before .before .sentence2 .ensures)
 
 pub last-spec : {M : Type 1} → statement M
 last-spec =
