@@ -7,6 +7,7 @@ use load::Session;
 use machine::Machine;
 use queue::Queue;
 use script::Script;
+use transcript::Words;
 
 // The settings of both ends, and whether words stand beside the transcript.
 struct Setup {
@@ -31,30 +32,41 @@ fn least(a: usize, b: usize) -> usize
 
 // The first n bytes of a buffer.
 fn print(out: &[u8], n: usize) {
-    let most = least(n, out.len());
-    io::write_all(STDOUT_FILENO, &out[..most]);
+    io::write_all(STDOUT_FILENO, part(out, 0, n));
 }
 
-// Prints a frame that an end sent.
-fn show(setup: Setup, host: bool, frame: &[u8]) {
-    let mut out = [0u8; 3200];
+// Prints a frame that an end sent; the machine as it is then.
+fn show(setup: Setup, host: bool, frame: &[u8], machine: Machine) {
+    let mut out = [0u8; 3400];
+    if setup.words {
+        let f = fields::read(frame);
+        let words = transcript::frame_words(f, machine.state == 4, machine.transfer);
+        let line = transcript::told(host, frame, words, &mut out);
+        return print(&out, line.length);
+    }
     let line = transcript::sent(host, frame, &mut out);
     print(&out, line.length);
 }
 
-// A frame that an end sent is printed, and joins the end's queue if there is a place.
-fn deliver(
+// Words on an event, if they are asked for.
+fn note(setup: Setup, letter: u8, words: Words) {
+    if setup.words {
+        let mut out = [0u8; 3400];
+        let line = transcript::noted(letter, words, &mut out);
+        print(&out, line.length);
+    }
+}
+
+// A frame joins its end's queue if there is a place.
+fn join(
     setup: Setup,
-    host: bool,
+    letter: u8,
     frame: &[u8],
     waiting: Queue,
     places: &mut [[u8; 1500]; 16],
 ) -> Queue {
-    if frame.len() == 0 {
-        return waiting;
-    }
-    show(setup, host, frame);
     if queue::is_full(waiting) {
+        note(setup, letter, transcript::phrase(17));
         return waiting;
     }
     let at = queue::free(waiting);
@@ -62,88 +74,130 @@ fn deliver(
     queue::join(waiting, frame.len())
 }
 
+// What a step of the machine leaves: its frame is printed and joins the queue.
+fn machine_did(
+    setup: Setup,
+    letter: u8,
+    ends: Ends,
+    stepped: machine::Stepped,
+    reply: &[u8],
+    places: &mut [[u8; 1500]; 16],
+) -> Ends {
+    let machine = stepped.machine;
+    let frame = part(reply, 0, stepped.answer.length);
+    let mut next = ends;
+    next.machine = machine;
+    if frame.len() == 0 {
+        note(setup, letter, transcript::machine_words(letter == b'n'));
+        return next;
+    }
+    show(setup, false, frame, machine);
+    let joined = join(setup, letter, frame, ends.from_machine, places);
+    next.from_machine = joined;
+    next
+}
+
+// What a step of the host leaves.
+fn host_did(
+    setup: Setup,
+    letter: u8,
+    ends: Ends,
+    stepped: load::Stepped,
+    reply: &[u8],
+    places: &mut [[u8; 1500]; 16],
+) -> Ends {
+    let session = stepped.session;
+    let verdict = ends.session.verdict;
+    let frame = part(reply, 0, stepped.answer.length);
+    let mut next = ends;
+    next.session = session;
+    if frame.len() == 0 {
+        let words = transcript::host_words(letter == b'm', verdict, session.verdict);
+        note(setup, letter, words);
+        return next;
+    }
+    show(setup, true, frame, ends.machine);
+    let joined = join(setup, letter, frame, ends.from_host, places);
+    next.from_host = joined;
+    next
+}
+
 // The host's first frame is handed over to the machine.
 fn to_machine(
     setup: Setup,
+    letter: u8,
     ends: Ends,
+    memory: &mut [u8],
     host_places: &[[u8; 1500]; 16],
     machine_places: &mut [[u8; 1500]; 16],
-    memory: &mut [u8],
 ) -> Ends {
     let waiting = ends.from_host;
-    if queue::length(waiting) == 0 {
+    let n = queue::length(waiting);
+    if n == 0 {
+        note(setup, letter, transcript::phrase(7));
         return ends;
     }
     let at = queue::front(waiting);
-    let place = &host_places[at][..];
-    let n = least(queue::length(waiting), place.len());
+    let frame = part(&host_places[at][..], 0, n);
     let mut reply = [0u8; 1500];
-    let stepped = machine::frame(setup.machine, ends.machine, &place[..n], memory, &mut reply);
-    let length = least(stepped.answer.length, 1500);
-    let sent = deliver(
-        setup,
-        false,
-        &reply[..length],
-        ends.from_machine,
-        machine_places,
-    );
-    let machine = stepped.machine;
-    let mut next = ends;
-    next.machine = machine;
-    next.from_machine = sent;
-    next
+    let stepped = machine::frame(setup.machine, ends.machine, frame, memory, &mut reply);
+    machine_did(setup, letter, ends, stepped, &reply, machine_places)
 }
 
 // The machine's first frame is handed over to the host.
 fn to_host(
     setup: Setup,
+    letter: u8,
     ends: Ends,
     file: &[u8],
     machine_places: &[[u8; 1500]; 16],
     host_places: &mut [[u8; 1500]; 16],
 ) -> Ends {
     let waiting = ends.from_machine;
-    if queue::length(waiting) == 0 {
+    let n = queue::length(waiting);
+    if n == 0 {
+        note(setup, letter, transcript::phrase(7));
         return ends;
     }
     let at = queue::front(waiting);
-    let place = &machine_places[at][..];
-    let n = least(queue::length(waiting), place.len());
+    let frame = part(&machine_places[at][..], 0, n);
     let mut reply = [0u8; 1500];
-    let stepped = load::frame(setup.host, ends.session, file, &place[..n], &mut reply);
-    let length = least(stepped.answer.length, 1500);
-    let sent = deliver(setup, true, &reply[..length], ends.from_host, host_places);
-    let session = stepped.session;
-    let mut next = ends;
-    next.session = session;
-    next.from_host = sent;
-    next
+    let stepped = load::frame(setup.host, ends.session, file, frame, &mut reply);
+    host_did(setup, letter, ends, stepped, &reply, host_places)
 }
 
 // The host's timer.
-fn host_timer(setup: Setup, ends: Ends, file: &[u8], places: &mut [[u8; 1500]; 16]) -> Ends {
+fn host_timer(
+    setup: Setup,
+    letter: u8,
+    ends: Ends,
+    file: &[u8],
+    places: &mut [[u8; 1500]; 16],
+) -> Ends {
     let mut reply = [0u8; 1500];
     let stepped = load::timer(setup.host, ends.session, file, &mut reply);
-    let length = least(stepped.answer.length, 1500);
-    let sent = deliver(setup, true, &reply[..length], ends.from_host, places);
-    let session = stepped.session;
-    let mut next = ends;
-    next.session = session;
-    next.from_host = sent;
-    next
+    host_did(setup, letter, ends, stepped, &reply, places)
 }
 
 // The machine's timer.
-fn machine_timer(setup: Setup, ends: Ends, memory: &[u8], places: &mut [[u8; 1500]; 16]) -> Ends {
+fn machine_timer(
+    setup: Setup,
+    letter: u8,
+    ends: Ends,
+    memory: &[u8],
+    places: &mut [[u8; 1500]; 16],
+) -> Ends {
     let mut reply = [0u8; 1500];
     let stepped = machine::timer(setup.machine, ends.machine, memory, &mut reply);
-    let length = least(stepped.answer.length, 1500);
-    let sent = deliver(setup, false, &reply[..length], ends.from_machine, places);
-    let machine = stepped.machine;
-    let mut next = ends;
-    next.machine = machine;
-    next.from_machine = sent;
-    next
+    machine_did(setup, letter, ends, stepped, &reply, places)
+}
+
+// Words on a frame that is dropped.
+fn lost(setup: Setup, letter: u8, waiting: Queue) {
+    if queue::length(waiting) == 0 {
+        return note(setup, letter, transcript::phrase(7));
+    }
+    note(setup, letter, transcript::phrase(8));
 }
 
 // The host's first frame leaves the line.
@@ -162,6 +216,44 @@ fn machine_leaves(ends: Ends) -> Ends {
     next
 }
 
+// The host's first frame is handed over, and leaves the line.
+fn hand_to_machine(
+    setup: Setup,
+    letter: u8,
+    ends: Ends,
+    memory: &mut [u8],
+    host_places: &[[u8; 1500]; 16],
+    machine_places: &mut [[u8; 1500]; 16],
+) -> Ends {
+    let next = to_machine(setup, letter, ends, memory, host_places, machine_places);
+    host_leaves(next)
+}
+
+// The machine's first frame is handed over, and leaves the line.
+fn hand_to_host(
+    setup: Setup,
+    letter: u8,
+    ends: Ends,
+    file: &[u8],
+    machine_places: &[[u8; 1500]; 16],
+    host_places: &mut [[u8; 1500]; 16],
+) -> Ends {
+    let next = to_host(setup, letter, ends, file, machine_places, host_places);
+    machine_leaves(next)
+}
+
+// The host's first frame is dropped.
+fn drop_host(setup: Setup, letter: u8, ends: Ends) -> Ends {
+    lost(setup, letter, ends.from_host);
+    host_leaves(ends)
+}
+
+// The machine's first frame is dropped.
+fn drop_machine(setup: Setup, letter: u8, ends: Ends) -> Ends {
+    lost(setup, letter, ends.from_machine);
+    machine_leaves(ends)
+}
+
 // One event, by its letter.
 fn event(
     setup: Setup,
@@ -173,14 +265,14 @@ fn event(
     machine_places: &mut [[u8; 1500]; 16],
 ) -> Ends {
     match letter {
-        b'h' => host_leaves(to_machine(setup, ends, host_places, machine_places, memory)),
-        b'k' => to_machine(setup, ends, host_places, machine_places, memory),
-        b'x' => host_leaves(ends),
-        b't' => machine_leaves(to_host(setup, ends, file, machine_places, host_places)),
-        b'u' => to_host(setup, ends, file, machine_places, host_places),
-        b'y' => machine_leaves(ends),
-        b'm' => host_timer(setup, ends, file, host_places),
-        _ => machine_timer(setup, ends, memory, machine_places),
+        b'h' => hand_to_machine(setup, letter, ends, memory, host_places, machine_places),
+        b'k' => to_machine(setup, letter, ends, memory, host_places, machine_places),
+        b'x' => drop_host(setup, letter, ends),
+        b't' => hand_to_host(setup, letter, ends, file, machine_places, host_places),
+        b'u' => to_host(setup, letter, ends, file, machine_places, host_places),
+        b'y' => drop_machine(setup, letter, ends),
+        b'm' => host_timer(setup, letter, ends, file, host_places),
+        _ => machine_timer(setup, letter, ends, memory, machine_places),
     }
 }
 
@@ -196,9 +288,10 @@ fn run(
     let mut ends = begin(setup, memory, machine_places);
     let mut i = 0;
     while i < letters.len() {
+        let letter = letters[i];
         ends = event(
             setup,
-            letters[i],
+            letter,
             ends,
             file,
             memory,
@@ -214,19 +307,18 @@ fn run(
 fn begin(setup: Setup, memory: &[u8], places: &mut [[u8; 1500]; 16]) -> Ends {
     let mut reply = [0u8; 1500];
     let stepped = machine::start_load(setup.machine, memory, &mut reply);
-    let length = least(stepped.answer.length, 1500);
-    let sent = deliver(setup, false, &reply[..length], queue::empty(), places);
     let machine = stepped.machine;
-    Ends {
+    let ends = Ends {
         session: load::start(),
         machine,
         from_host: queue::empty(),
-        from_machine: sent,
-    }
+        from_machine: queue::empty(),
+    };
+    machine_did(setup, b'n', ends, stepped, &reply, places)
 }
 
-// The last line.
-fn finish(setup: Setup, ends: Ends, memory: &[u8]) {
+// The last line, and what it means.
+fn finish(setup: Setup, many: u64, ends: Ends, memory: &[u8]) {
     let mut out = [0u8; 8400];
     let session = ends.session;
     let machine = ends.machine;
@@ -239,25 +331,56 @@ fn finish(setup: Setup, ends: Ends, memory: &[u8]) {
         &mut out,
     );
     print(&out, line.length);
+    if setup.words {
+        report(session, many, machine.transfer);
+    }
 }
 
-// A refusal.
+// What a record means, in words.
+fn report(session: Session, many: u64, transfer: u32) {
+    let words = transcript::report_words(
+        session.waiting == 1,
+        session.verdict,
+        session.position,
+        many,
+        session.sent,
+        transfer,
+    );
+    say(words);
+}
+
+// A line of words.
+fn say(words: Words) {
+    let mut out = [0u8; 3400];
+    let line = transcript::said(words, &mut out);
+    print(&out, line.length);
+}
+
+// A refusal, and what it means.
 fn refuse(words: bool, refusal: u8) {
     let mut out = [0u8; 64];
     let line = transcript::bad(refusal, &mut out);
     print(&out, line.length);
+    if words {
+        say(transcript::refusal_words(refusal));
+    }
 }
 
-// The refusal of an image file, or 0.
-fn unfit(file: &[u8], size: u32) -> u8 {
+// An image file: its refusal, or 0 and the number of its segments.
+struct Image {
+    refusal: u8,
+    many: u64,
+}
+
+fn look(file: &[u8], size: u32) -> Image {
     let checked = image::check(file, size);
     match checked {
         Checked::Accepted {
             count: _,
             transfer: _,
-            many: _,
-        } => 0,
-        Checked::Refused(refusal) => refusal,
+            many,
+        } => Image { refusal: 0, many },
+        Checked::Refused(refusal) => Image { refusal, many: 0 },
     }
 }
 
@@ -284,26 +407,41 @@ fn part(input: &[u8], from: usize, length: usize) -> &[u8] {
     &input[start..end]
 }
 
-// An image that was accepted, with its events.
+// The events on an image of so many segments, and the last line.
 fn play(
     setup: Setup,
-    script: Script,
+    many: u64,
+    letters: &[u8],
+    file: &[u8],
+    memory: &mut [u8],
+    host_places: &mut [[u8; 1500]; 16],
+    machine_places: &mut [[u8; 1500]; 16],
+) {
+    let ends = run(setup, letters, file, memory, host_places, machine_places);
+    finish(setup, many, ends, memory);
+}
+
+// The same in a memory of so many zeros.
+fn play_in(
+    size: usize,
+    setup: Setup,
+    many: u64,
     letters: &[u8],
     file: &[u8],
     host_places: &mut [[u8; 1500]; 16],
     machine_places: &mut [[u8; 1500]; 16],
 ) {
-    let mut space = [0u8; 4096];
-    let n = least(script.memory, 4096);
-    let ends = run(
+    let mut memory = [0u8; 4096];
+    let n = least(size, 4096);
+    play(
         setup,
+        many,
         letters,
         file,
-        &mut space[..n],
+        &mut memory[..n],
         host_places,
         machine_places,
     );
-    finish(setup, ends, &space[..n]);
 }
 
 // An input: its form, then its image, then its events.
@@ -319,18 +457,20 @@ fn perform(
     }
     let mut space = [0u8; 4096];
     let digits = part(input, script.image_at, script.image_length);
-    let image = script::decode(digits, &mut space);
-    let n = least(image.length, 4096);
-    let wrong = unfit(&space[..n], script.segment_size);
-    if wrong != 0 {
-        return refuse(words, wrong);
+    let decoded = script::decode(digits, &mut space);
+    let file = part(&space, 0, decoded.length);
+    let image = look(file, script.segment_size);
+    if image.refusal != 0 {
+        return refuse(words, image.refusal);
     }
+    let setup = prepare(words, script);
     let letters = part(input, script.events_at, script.events_length);
-    play(
-        prepare(words, script),
-        script,
+    play_in(
+        script.memory,
+        setup,
+        image.many,
         letters,
-        &space[..n],
+        file,
         host_places,
         machine_places,
     );

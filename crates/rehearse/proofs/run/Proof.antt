@@ -1,53 +1,42 @@
+use Prim.Native.Nat.{_-_}
+use mathlib.Core.Path.{_≡_}
+use native.Mathlib.Omega.{arith}
+use lib.ListN.{length}
 use Rattle.rehearse.proofs.run.Statement.{statement}
 use Rattle.rehearse.proofs.run.Tie as tie
-use Rattle.rehearse.proofs.run.Reads as reads
-use Rattle.rehearse.proofs.run.Lts as lts
-use Rattle.rehearse.proofs.begin.Reads as begin-reads
-use Rattle.rehearse.proofs.event.Reads as event-reads
 
 abbrev Inv-loop : tie.InvT-loop
-Inv-loop setup letters file memory₀ host-places₀ machine-places₀ ends₀ i₀ memory host-places machine-places ends i =
-    ?
+Inv-loop setup letters file memory₀ host-places₀ machine-places₀ ends₀ i₀ memory host-places machine-places ends i = length memory ≡ length memory₀
 
 abbrev μ-loop : tie.MeasureT-loop
-μ-loop setup letters file memory₀ host-places₀ machine-places₀ ends₀ i₀ memory host-places machine-places ends i =
-    ?
+μ-loop setup letters file memory₀ host-places₀ machine-places₀ ends₀ i₀ memory host-places machine-places ends i = length letters - i
 
--- src/lib.rt:196:9
 begin-requires : tie.Need-begin-requires Inv-loop μ-loop
-begin-requires c κs = ?
+begin-requires c κs = tt
 
--- src/lib.rt:198:5
 loop-holds : tie.Need-loop-holds Inv-loop μ-loop
-loop-holds c = ?
+loop-holds c = omega arith
 
--- src/lib.rt:201:13
-shared-slice-read-event : tie.Need-shared-slice-read-event Inv-loop μ-loop
-shared-slice-read-event c = ?
+shared-slice-read-letter : tie.Need-shared-slice-read-letter Inv-loop μ-loop
+shared-slice-read-letter c = omega arith
 
--- src/lib.rt:199:9
 event-requires : tie.Need-event-requires Inv-loop μ-loop
-event-requires c κs = ?
+event-requires c κs = tt
 
--- src/lib.rt:208:9
 add-i : tie.Need-add-i Inv-loop μ-loop
-add-i c = ?
+add-i c = omega (arith, c .before .before .before .before .before .before .before .loop-test .taken, c .before .before .before .before .before .before .before .before .before .before .before .before .before .before .before .good)
 
--- src/lib.rt:198:5
 loop-less : tie.Need-loop-less Inv-loop μ-loop
-loop-less c = ?
+loop-less c = omega arith
 
--- src/lib.rt:198:5
 loop-again : tie.Need-loop-again Inv-loop μ-loop
-loop-again c = ?
+loop-again c = omega arith
 
--- src/lib.rt:188:1
 same-length : tie.Need-same-length Inv-loop μ-loop
-same-length c = ?
+same-length c = omega arith
 
--- src/lib.rt:188:1
 returns : tie.Need-returns Inv-loop μ-loop
-returns c = ?
+returns c = tt
 
 pub run-spec : {M : Type 1} → statement M
 run-spec =
@@ -57,7 +46,7 @@ run-spec =
     μ-loop
     begin-requires
     loop-holds
-    shared-slice-read-event
+    shared-slice-read-letter
     event-requires
     add-i
     loop-less
