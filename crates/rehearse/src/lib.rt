@@ -35,12 +35,12 @@ fn print(out: &[u8], n: usize) {
     io::write_all(STDOUT_FILENO, part(out, 0, n));
 }
 
-// Prints a frame that an end sent; the machine as it is then.
-fn show(setup: Setup, host: bool, frame: &[u8], machine: Machine) {
+// Prints a frame that an end sent; the machine as it is then, and whether the host sends it again.
+fn show(setup: Setup, host: bool, frame: &[u8], machine: Machine, again: bool) {
     let mut out = [0u8; 3400];
     if setup.words {
         let f = fields::read(frame);
-        let words = transcript::frame_words(f, machine.state == 4, machine.transfer);
+        let words = transcript::frame_words(f, machine.state == 4, machine.transfer, again);
         let line = transcript::told(host, frame, words, &mut out);
         return print(&out, line.length);
     }
@@ -66,7 +66,7 @@ fn join(
     places: &mut [[u8; 1500]; 16],
 ) -> Queue {
     if queue::is_full(waiting) {
-        note(setup, letter, transcript::phrase(17));
+        note(setup, letter, transcript::full_words());
         return waiting;
     }
     let at = queue::free(waiting);
@@ -91,7 +91,7 @@ fn machine_did(
         note(setup, letter, transcript::machine_words(letter == b'n'));
         return next;
     }
-    show(setup, false, frame, machine);
+    show(setup, false, frame, machine, false);
     let joined = join(setup, letter, frame, ends.from_machine, places);
     next.from_machine = joined;
     next
@@ -116,7 +116,7 @@ fn host_did(
         note(setup, letter, words);
         return next;
     }
-    show(setup, true, frame, ends.machine);
+    show(setup, true, frame, ends.machine, 0 < session.repeats);
     let joined = join(setup, letter, frame, ends.from_host, places);
     next.from_host = joined;
     next
@@ -134,7 +134,7 @@ fn to_machine(
     let waiting = ends.from_host;
     let n = queue::length(waiting);
     if n == 0 {
-        note(setup, letter, transcript::phrase(7));
+        note(setup, letter, transcript::line_words(true, false));
         return ends;
     }
     let at = queue::front(waiting);
@@ -156,7 +156,7 @@ fn to_host(
     let waiting = ends.from_machine;
     let n = queue::length(waiting);
     if n == 0 {
-        note(setup, letter, transcript::phrase(7));
+        note(setup, letter, transcript::line_words(false, false));
         return ends;
     }
     let at = queue::front(waiting);
@@ -190,14 +190,6 @@ fn machine_timer(
     let mut reply = [0u8; 1500];
     let stepped = machine::timer(setup.machine, ends.machine, memory, &mut reply);
     machine_did(setup, letter, ends, stepped, &reply, places)
-}
-
-// Words on a frame that is dropped.
-fn lost(setup: Setup, letter: u8, waiting: Queue) {
-    if queue::length(waiting) == 0 {
-        return note(setup, letter, transcript::phrase(7));
-    }
-    note(setup, letter, transcript::phrase(8));
 }
 
 // The host's first frame leaves the line.
@@ -244,13 +236,15 @@ fn hand_to_host(
 
 // The host's first frame is dropped.
 fn drop_host(setup: Setup, letter: u8, ends: Ends) -> Ends {
-    lost(setup, letter, ends.from_host);
+    let some = 0 < queue::length(ends.from_host);
+    note(setup, letter, transcript::line_words(true, some));
     host_leaves(ends)
 }
 
 // The machine's first frame is dropped.
 fn drop_machine(setup: Setup, letter: u8, ends: Ends) -> Ends {
-    lost(setup, letter, ends.from_machine);
+    let some = 0 < queue::length(ends.from_machine);
+    note(setup, letter, transcript::line_words(false, some));
     machine_leaves(ends)
 }
 

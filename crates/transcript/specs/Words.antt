@@ -21,33 +21,38 @@ phrase row = words row 0 0 0 0
 abbrev pub phrases : List ℕ
 phrases =
     tabled
-    ( -- frames: 0 to 6
+    ( -- frames: 0 to 8
     chars "the machine asks for its program" ∷
-    chars "the machine has segment # and asks for number #" ∷
+    chars "the machine has segment number # and asks for number #" ∷
     chars "the machine has the last segment and starts at @" ∷
-    chars "the machine has no room for segment #" ∷
-    chars "the host sends segment #: # bytes for address @" ∷
-    chars "the host sends the last segment, number #: # bytes for address @" ∷
+    chars "the machine has no room for segment number #" ∷
+    chars "the host sends segment number #, length #, for address @" ∷
+    chars "the host sends the last segment, number #, length #, for address @" ∷
+    chars "the host repeats segment number #, length #, for address @" ∷
+    chars "the host repeats the last segment, number #, length #, for address @" ∷
     chars "another frame" ∷
-    -- events that send no frame: 7 to 16; a full queue: 17
-    chars "no frame is on the line" ∷
-    chars "the frame is lost on the line" ∷
+    -- frames on the line: 9 to 13
+    chars "no frame of the host is on the line" ∷
+    chars "the host's frame is lost on the line" ∷
+    chars "no frame of the machine is on the line" ∷
+    chars "the machine's frame is lost on the line" ∷
+    chars "the line is full: this frame is lost" ∷
+    -- steps that send no frame: 14 to 21
     chars "the machine ignores the frame" ∷
+    chars "the machine has nothing to ask" ∷
     chars "the host ignores the frame" ∷
+    chars "the host has nothing to repeat" ∷
     chars "the host has the last answer: finished" ∷
     chars "the host hears of the error: rejected" ∷
-    chars "the host has nothing to repeat" ∷
     chars "the host has no repeats left: given up" ∷
     chars "the host has no repeats left for the last segment: unconfirmed" ∷
-    chars "the machine has nothing to ask" ∷
-    chars "the line is full: this frame is lost" ∷
-    -- refusals 10, 5, 6, 7, 8: 18 to 22
+    -- refusals 10, 5, 6, 7, 8: 22 to 26
     chars "The input is malformed." ∷
     chars "The image file's length or zero field is wrong." ∷
     chars "The image's entry count or directory offset is wrong." ∷
     chars "An entry of the image breaks its own rule." ∷
     chars "An entry of the image begins before the last one's end." ∷
-    -- what a load report means: 23 waiting, 24 running, 25 to 28 verdicts 1 to 4
+    -- what a load report means: 27 waiting, 28 running, 29 to 32 verdicts 1 to 4
     chars "The host still waits: nothing of the program is in the machine. Frames sent: #." ∷
     chars "The load is not finished: of # segments the machine holds the first # or the first #. Frames sent: #." ∷
     chars "The machine holds the catalogued program and was started at @. Frames sent: #." ∷
@@ -59,36 +64,48 @@ phrases =
 abbrev pub previous : ℕ → ℕ
 previous n = pick (eqb n 0) 255 (n - 1)
 
--- a frame, sent by a machine that is Started at an address, or is not, or by the host
+-- the reply of a machine that is Started at an address, or is not
 abbrev pub replyWords : Fields → Bool → ℕ → Words
 replyWords f started transfer =
     pick (eqb (f .error) 0)
     (pick started (words 2 transfer 0 0 0) (words 1 (previous (f .number)) (f .number) 0 0))
     (words 3 (previous (f .number)) 0 0 0)
 
-abbrev pub frameWords : Fields → Bool → ℕ → Words
-frameWords f started transfer =
+-- a segment
+abbrev pub segmentWords : Fields → ℕ → Words
+segmentWords f row = words row (f .number) (f .«data_length») (f .address) 0
+
+-- a frame of either end; the host sends a segment, or sends it again
+abbrev pub frameWords : Fields → Bool → ℕ → Bool → Words
+frameWords f started transfer again =
     pick (eqb (f .code) 8) (phrase 0)
     (pick (eqb (f .code) 10) (replyWords f started transfer)
-    (pick (eqb (f .code) 2) (words 4 (f .number) (f .«data_length») (f .address) 0)
-    (pick (eqb (f .code) 0) (words 5 (f .number) (f .«data_length») (f .address) 0)
-    (phrase 6))))
+    (pick (eqb (f .code) 2) (segmentWords f (pick again 6 4))
+    (pick (eqb (f .code) 0) (segmentWords f (pick again 7 5))
+    (phrase 8))))
+
+-- an end's first frame on the line: there is none, or it is dropped
+abbrev pub lineWords : Bool → Bool → Words
+lineWords host some = phrase (pick host (pick some 10 9) (pick some 12 11))
+
+abbrev pub fullWords : Words
+fullWords = phrase 13
 
 -- the machine sends nothing: its timer, or a frame that it ignores
 abbrev pub machineWords : Bool → Words
-machineWords timer = pick timer (phrase 16) (phrase 9)
+machineWords timer = pick timer (phrase 15) (phrase 14)
 
 -- the host sends nothing; its verdict before and after
 abbrev pub hostWords : Bool → ℕ → ℕ → Words
 hostWords timer verdict next =
-    pick (eqb verdict next) (pick timer (phrase 13) (phrase 10))
-    (pick (eqb next 1) (phrase 11)
-    (pick (eqb next 2) (phrase 12)
-    (pick (eqb next 3) (phrase 14) (phrase 15))))
+    pick (eqb verdict next) (pick timer (phrase 17) (phrase 16))
+    (pick (eqb next 1) (phrase 18)
+    (pick (eqb next 2) (phrase 19)
+    (pick (eqb next 3) (phrase 20) (phrase 21))))
 
 -- a refusal
 abbrev pub refusalWords : ℕ → Words
-refusalWords n = phrase (pick (eqb n 5) 19 (pick (eqb n 6) 20 (pick (eqb n 7) 21 (pick (eqb n 8) 22 18))))
+refusalWords n = phrase (pick (eqb n 5) 23 (pick (eqb n 6) 24 (pick (eqb n 7) 25 (pick (eqb n 8) 26 22))))
 
 -- one segment more, where there is one
 abbrev pub further : ℕ → ℕ → ℕ
@@ -97,12 +114,12 @@ further c n = pick (ltb c n) (c + 1) n
 -- what a record means of the machine (paper 01, 'The link, for demand 3'): verdict, c, N, frames sent, transfer address
 abbrev pub reportWords : Bool → ℕ → ℕ → ℕ → ℕ → ℕ → Words
 reportWords waiting verdict c n sent transfer =
-    pick waiting (words 23 sent 0 0 0)
-    (pick (eqb verdict 0) (words 24 n c (further c n) sent)
-    (pick (eqb verdict 1) (words 25 transfer sent 0 0)
-    (pick (eqb verdict 2) (words 26 n c sent 0)
-    (pick (eqb verdict 3) (words 27 n c (further c n) sent)
-    (words 28 n sent 0 0)))))
+    pick waiting (words 27 sent 0 0 0)
+    (pick (eqb verdict 0) (words 28 n c (further c n) sent)
+    (pick (eqb verdict 1) (words 29 transfer sent 0 0)
+    (pick (eqb verdict 2) (words 30 n c sent 0)
+    (pick (eqb verdict 3) (words 31 n c (further c n) sent)
+    (words 32 n sent 0 0)))))
 
 -- the phrase with its numbers, and a line feed
 abbrev pub spoken : Words → List ℕ

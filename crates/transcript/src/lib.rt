@@ -1,10 +1,11 @@
 // The lines of a rehearsal's transcript (paper 01, 'Rehearsal program and its transcript'), and words beside them.
 ghost use mathlib.Core.Path.{_≡_};
+ghost use mathlib.Core.Bool.{cond};
 ghost use Prim.Native.Nat.{_+_, _*_};
 ghost use Rattle.octets.specs.Lay.{Came};
 ghost use Rattle.listing.specs.Listing.{placed};
 ghost use Rattle.transcript.specs.Transcript.{sentLine, lastLine, badLine};
-ghost use Rattle.transcript.specs.Words.{words, previous, replyWords, frameWords, machineWords, hostWords, refusalWords, reportWords};
+ghost use Rattle.transcript.specs.Words.{words, previous, replyWords, segmentWords, frameWords, lineWords, fullWords, machineWords, hostWords, refusalWords, reportWords};
 ghost use Rattle.transcript.specs.Words.{phrase, further, spoken, gap, besideLine, toldLine, notedLine};
 use fields::Fields;
 use octets::Written;
@@ -63,7 +64,7 @@ fn spoken(row: usize, a: usize, b: usize, c: usize, d: usize) -> Words
 }
 
 // A phrase without numbers.
-pub fn phrase(row: usize) -> Words
+fn phrase(row: usize) -> Words
     ensures { λ r. ⌜ r ≡ phrase row ⌝ }
 {
     spoken(row, 0, 0, 0, 0)
@@ -91,15 +92,22 @@ fn reply_words(f: Fields, started: bool, transfer: u32) -> Words
 }
 
 // A segment that the host sends.
-fn segment_words(row: usize, f: Fields) -> Words
-    ensures { λ r. ⌜ r ≡ words row (f .number) (f .«data_length») (f .address) 0 ⌝ }
+fn segment_words(f: Fields, row: usize) -> Words
+    ensures { λ r. ⌜ r ≡ segmentWords f row ⌝ }
 {
     spoken(row, f.number as usize, f.data_length, f.address as usize, 0)
 }
 
-// A frame that was sent; `started` and `transfer` are the machine's.
-pub fn frame_words(f: Fields, started: bool, transfer: u32) -> Words
-    ensures { λ r. ⌜ r ≡ frameWords f started transfer ⌝ }
+// One of two rows.
+fn either(test: bool, a: usize, b: usize) -> usize
+    ensures { λ r. ⌜ r ≡ cond test a b ⌝ }
+{
+    if test { a } else { b }
+}
+
+// A frame that was sent; `started` and `transfer` are the machine's, and the host sends a segment, or sends it again.
+pub fn frame_words(f: Fields, started: bool, transfer: u32, again: bool) -> Words
+    ensures { λ r. ⌜ r ≡ frameWords f started transfer again ⌝ }
 {
     if f.code == 8 {
         return phrase(0);
@@ -108,12 +116,29 @@ pub fn frame_words(f: Fields, started: bool, transfer: u32) -> Words
         return reply_words(f, started, transfer);
     }
     if f.code == 2 {
-        return segment_words(4, f);
+        return segment_words(f, either(again, 6, 4));
     }
     if f.code == 0 {
-        return segment_words(5, f);
+        return segment_words(f, either(again, 7, 5));
     }
-    phrase(6)
+    phrase(8)
+}
+
+// An end's first frame on the line: there is none, or it is dropped.
+pub fn line_words(host: bool, some: bool) -> Words
+    ensures { λ r. ⌜ r ≡ lineWords host some ⌝ }
+{
+    if host {
+        return phrase(either(some, 10, 9));
+    }
+    phrase(either(some, 12, 11))
+}
+
+// A frame for which there is no place.
+pub fn full_words() -> Words
+    ensures { λ r. ⌜ r ≡ fullWords ⌝ }
+{
+    phrase(13)
 }
 
 // The machine sends nothing: at its timer, or at a frame.
@@ -121,9 +146,9 @@ pub fn machine_words(timer: bool) -> Words
     ensures { λ r. ⌜ r ≡ machineWords timer ⌝ }
 {
     if timer {
-        return phrase(16);
+        return phrase(15);
     }
-    phrase(9)
+    phrase(14)
 }
 
 // The host sends nothing; its verdict before and after.
@@ -132,20 +157,20 @@ pub fn host_words(timer: bool, verdict: u8, next: u8) -> Words
 {
     if verdict == next {
         if timer {
-            return phrase(13);
+            return phrase(17);
         }
-        return phrase(10);
+        return phrase(16);
     }
     if next == 1 {
-        return phrase(11);
+        return phrase(18);
     }
     if next == 2 {
-        return phrase(12);
+        return phrase(19);
     }
     if next == 3 {
-        return phrase(14);
+        return phrase(20);
     }
-    phrase(15)
+    phrase(21)
 }
 
 // A refusal.
@@ -153,11 +178,11 @@ pub fn refusal_words(refusal: u8) -> Words
     ensures { λ r. ⌜ r ≡ refusalWords refusal ⌝ }
 {
     match refusal {
-        5 => phrase(19),
-        6 => phrase(20),
-        7 => phrase(21),
-        8 => phrase(22),
-        _ => phrase(18),
+        5 => phrase(23),
+        6 => phrase(24),
+        7 => phrase(25),
+        8 => phrase(26),
+        _ => phrase(22),
     }
 }
 
@@ -177,21 +202,21 @@ pub fn report_words(waiting: bool, verdict: u8, c: u64, n: u64, sent: u64, trans
     let next = further(c, n) as usize;
     let frames = sent as usize;
     if waiting {
-        return spoken(23, frames, 0, 0, 0);
+        return spoken(27, frames, 0, 0, 0);
     }
     if verdict == 0 {
-        return spoken(24, many, first, next, frames);
+        return spoken(28, many, first, next, frames);
     }
     if verdict == 1 {
-        return spoken(25, transfer as usize, frames, 0, 0);
+        return spoken(29, transfer as usize, frames, 0, 0);
     }
     if verdict == 2 {
-        return spoken(26, many, first, frames, 0);
+        return spoken(30, many, first, frames, 0);
     }
     if verdict == 3 {
-        return spoken(27, many, first, next, frames);
+        return spoken(31, many, first, next, frames);
     }
-    spoken(28, many, frames, 0, 0)
+    spoken(32, many, frames, 0, 0)
 }
 
 // A phrase and its numbers, with a line feed.
@@ -201,23 +226,27 @@ pub fn said(w: Words, out: &mut [u8]) -> Written
     let v = [0, w.a, w.b, w.c, w.d];
     let none = [0u8; 0];
     let table = b"the machine asks for its program\n\
-        the machine has segment # and asks for number #\n\
+        the machine has segment number # and asks for number #\n\
         the machine has the last segment and starts at @\n\
-        the machine has no room for segment #\n\
-        the host sends segment #: # bytes for address @\n\
-        the host sends the last segment, number #: # bytes for address @\n\
+        the machine has no room for segment number #\n\
+        the host sends segment number #, length #, for address @\n\
+        the host sends the last segment, number #, length #, for address @\n\
+        the host repeats segment number #, length #, for address @\n\
+        the host repeats the last segment, number #, length #, for address @\n\
         another frame\n\
-        no frame is on the line\n\
-        the frame is lost on the line\n\
+        no frame of the host is on the line\n\
+        the host's frame is lost on the line\n\
+        no frame of the machine is on the line\n\
+        the machine's frame is lost on the line\n\
+        the line is full: this frame is lost\n\
         the machine ignores the frame\n\
+        the machine has nothing to ask\n\
         the host ignores the frame\n\
+        the host has nothing to repeat\n\
         the host has the last answer: finished\n\
         the host hears of the error: rejected\n\
-        the host has nothing to repeat\n\
         the host has no repeats left: given up\n\
         the host has no repeats left for the last segment: unconfirmed\n\
-        the machine has nothing to ask\n\
-        the line is full: this frame is lost\n\
         The input is malformed.\n\
         The image file's length or zero field is wrong.\n\
         The image's entry count or directory offset is wrong.\n\
