@@ -1,7 +1,6 @@
 -- A queue's places (paper 01, 'Rehearsal program and its transcript'): 16 places in a ring. The definitions hold for any record.
 use Prim.Native.Nat.{ℕ, _+_, _-_, _%_}
 use mathlib.Core.Bool.{Bool, cond as pick}
-use mathlib.Core.List.{List}
 use lib.ListN.{getD, set, replicate}
 use lib.Dec.{eqb, leb}
 use Rattle.queue.specs.declared.Queue.{Queue}

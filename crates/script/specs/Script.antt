@@ -1,10 +1,10 @@
 -- The rehearsal program's input (paper 01, 'Rehearsal program and its transcript'): three lines, each ended by a line feed.
 -- A text is the list of its characters' codes.
-use Prim.Native.Nat.{ℕ, _+_, _*_, _/_, _%_}
+use Prim.Native.Nat.{ℕ, _+_, _*_, _%_}
 use Prim.Native.Char.{code}
 use Prim.Native.String.{String}
 use Prim.Native.String as Quoted
-use mathlib.Core.Bool.{Bool, true, false, _&&_, _||_, not, cond as pick}
+use mathlib.Core.Bool.{Bool, true, _&&_, _||_, not, cond as pick}
 use mathlib.Core.List.{List, [], _∷_, _++_}
 use lib.ListN.{length, getD, take, drop}
 use lib.Dec.{eqb, leb, ltb}

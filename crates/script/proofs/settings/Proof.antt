@@ -1,6 +1,6 @@
 use Prim.Native.Nat.{ℕ, _+_, _-_}
 use mathlib.Core.Bool.{true}
-use mathlib.Core.Path.{_≡_, refl, _∙_}
+use mathlib.Core.Path.{_≡_, refl}
 use mathlib.Core.List.{List}
 use native.Mathlib.Omega.{arith}
 use lib.ListN.{length, drop, length-drop, length-take}
@@ -8,7 +8,7 @@ use lib.Seq.{take-all}
 use lib.Dec.{leb}
 use borrow.Author.Needs.{needs}
 use borrow.Author.Tests.{lt-leb, le-leb}
-use Rattle.script.specs.Script.{secondAt, thirdAt, memory, size, repeats, upTo}
+use Rattle.script.specs.Script.{secondAt, thirdAt, memory, size, repeats}
 use Rattle.script.specs.Inner.{number}
 use Rattle.script.specs.Laws.{Cut, cut, cut-first, place-within}
 use Rattle.script.specs.Answers.{in-range, no-number}
