@@ -5,7 +5,7 @@ use mathlib.Core.Bool.{Bool, true, false, cond}
 use mathlib.Core.List.{List, [], _∷_, _++_}
 use native.Mathlib.Omega.{arith}
 use lib.ListN.{length, getD, take, drop, length-append, length-take, length-drop}
-use lib.Seq.{take-all}
+use lib.Seq.{take-all, take-nil, drop-nil}
 use lib.Dec.{ltb, eqb}
 use borrow.Author.Tests.{le-ltb, ne-eqb}
 use Rattle.reader.specs.declared.Frame.{Frame}
@@ -17,7 +17,7 @@ use Rattle.message.specs.Laws.{read-short}
 use Rattle.listing.specs.Text.{digits, trimmed, decimal, pairs, bytes, program, form, reason, messagePattern, messageValues, isMark, filled, text}
 use Rattle.listing.specs.Cases.{either}
 use Rattle.listing.specs.Over.{length-digits}
-use Rattle.listing.specs.Pattern.{part, composed, skip, row, patterns, few, refusalRow, numbers}
+use Rattle.listing.specs.Pattern.{part, takes, piece, composed, skip, row, patterns, few, refusalRow, numbers}
 
 -- a part that reaches to the frame's end
 tail : (s : List ℕ) (from : ℕ) → part s from (length s) ≡ drop from s
@@ -66,6 +66,9 @@ composes s (LoopedData receipt) h = ap (λ (d : List ℕ). text (message (looped
 composes s (Refused n) h = refuses s n
 
 -- how long a text can be
+part-nil : (from to : ℕ) → part [] from to ≡ []
+part-nil from to = rw drop-nil (take-nil (to - from))
+
 trimmed-most : (d : List ℕ) → length (trimmed d) ≤ length d
 unfolding trimmed
 trimmed-most [] = omega arith
@@ -74,10 +77,10 @@ trimmed-most (a ∷ b ∷ rest) =
     let h = trimmed-most (b ∷ rest) in
     either (eqb a 48) (λ (l : List ℕ). length l ≤ length (a ∷ b ∷ rest)) (omega arith) (omega arith)
 
-decimal-most : (n : ℕ) → length (decimal n) ≤ 10
-decimal-most n = omega (arith, trimmed-most (digits 10 10 n), length-digits 10 10 n)
+pub decimal-most : (n : ℕ) → length (decimal n) ≤ 20
+decimal-most n = omega (arith, trimmed-most (digits 10 20 n), length-digits 10 20 n)
 
-length-pairs : (s : List ℕ) → length (pairs s) ≡ 2 * length s
+pub length-pairs : (s : List ℕ) → length (pairs s) ≡ 2 * length s
 unfolding pairs
 length-pairs [] = refl
 length-pairs (b ∷ rest) = rw (length-append, length-digits 16 2 b, length-pairs rest) (omega arith)
@@ -86,19 +89,38 @@ bytes-most : (s : List ℕ) → length (bytes s) ≤ 2 * length s + 1
 bytes-most [] = omega arith
 bytes-most (b ∷ rest) = omega (arith, length-pairs (b ∷ rest))
 
-program-most : (p : ℕ) → length (program p) ≤ 24
+pub program-most : (p : ℕ) → length (program p) ≤ 24
 program-most p =
     let h = decimal-most p in
     either (eqb p 0) (λ (l : List ℕ). length l ≤ 24) (omega arith)
     (either (eqb p 1) (λ (l : List ℕ). length l ≤ 24) (omega arith)
     (either (eqb p 2) (λ (l : List ℕ). length l ≤ 24) (omega arith) (omega arith)))
 
-form-most : (f : ℕ) → length (form f) ≤ 24
+pub form-most : (f : ℕ) → length (form f) ≤ 24
 form-most f =
     let h = decimal-most f in
     either (eqb f 0) (λ (l : List ℕ). length l ≤ 24) (omega arith)
     (either (eqb f 254) (λ (l : List ℕ). length l ≤ 24) (omega arith)
     (either (eqb f 255) (λ (l : List ℕ). length l ≤ 24) (omega arith) (omega arith)))
+
+-- a pattern filled without a frame
+piece-most : (c : ℕ) (v : List ℕ) (k : ℕ) → length (piece [] c v k) ≤ 24
+piece-most c v k =
+    let n = getD v k 0 in
+    let d = decimal-most n in
+    let a = length-digits 16 8 n in
+    let p = program-most n in
+    let f = form-most n in
+    let b : length (bytes (part [] n (getD v (k + 1) 0))) ≤ 24 = rw part-nil (omega arith) in
+    either (eqb c 35) P (omega arith) (either (eqb c 64) P (omega arith) (either (eqb c 37) P b (either (eqb c 63) P (omega arith) (either (eqb c 33) P (omega arith) (omega arith)))))
+  where
+    P : List ℕ → Type 0
+    P l = length l ≤ 24
+
+pub composed-most : (p v : List ℕ) (k : ℕ) → length (composed [] p v k) ≤ 24 * length p
+unfolding composed
+composed-most [] v k = omega arith
+composed-most (c ∷ rest) v k = rw length-append (omega (arith, piece-most c v k, composed-most rest v (k + takes c)))
 
 abbrev total : List (List ℕ) → ℕ
 total [] = 0
@@ -121,11 +143,11 @@ filled-most (c ∷ rest) vs = rw length-append (by (isMark c) (filled-most rest)
 taken : (n : ℕ) (l : List ℕ) → length (take n l) ≤ n
 taken n l = simp length-take (omega arith)
 
-fits : (m : Message) → length (messagePattern m) + total (messageValues m) ≤ 3199 → length (text (message m)) ≤ 3199
+fits : (m : Message) → length (messagePattern m) + total (messageValues m) ≤ 3299 → length (text (message m)) ≤ 3299
 unfolding text
 fits m h = omega (arith, filled-most (messagePattern m) (messageValues m))
 
-short-reason : (n : ℕ) → length (text (refused n)) ≤ 3199
+short-reason : (n : ℕ) → length (text (refused n)) ≤ 3299
 unfolding text
 short-reason n =
     let r : length (reason n) ≤ 200 =
@@ -133,7 +155,7 @@ short-reason n =
     omega (arith, filled-most (reason n) [])
 
 -- a frame that was read has at most 1,500 bytes
-short : (s : List ℕ) (answer : Frame) → Within s answer → ((m : Message) → meaning s answer ≡ message m → length s ≤ 1500) → length (text (meaning s answer)) ≤ 3199
+short : (s : List ℕ) (answer : Frame) → Within s answer → ((m : Message) → meaning s answer ≡ message m → length s ≤ 1500) → length (text (meaning s answer)) ≤ 3299
 short s (MemoryLoadTransfer number at end transfer) h k = fits (memoryLoadTransfer number at (take (end - 6) (drop 6 s)) transfer) (omega (arith, k (memoryLoadTransfer number at (take (end - 6) (drop 6 s)) transfer) refl, decimal-most number, length-digits 16 8 at, length-digits 16 8 transfer, bytes-most (take (end - 6) (drop 6 s)), taken (end - 6) (drop 6 s)))
 short s (MemoryLoad number at) h k = fits (memoryLoad number at (drop 6 s)) (omega (arith, k (memoryLoad number at (drop 6 s)) refl, decimal-most number, length-digits 16 8 at, bytes-most (drop 6 s), length-drop 6 s))
 short s (RequestProgram device format kind software end processor) h k = fits (requestProgram device format kind software (take (end - 5) (drop 5 s)) processor (drop (end + 1) s)) (omega (arith, k (requestProgram device format kind software (take (end - 5) (drop 5 s)) processor (drop (end + 1) s)) refl, decimal-most device, decimal-most format, program-most kind, form-most software, decimal-most processor, bytes-most (take (end - 5) (drop 5 s)), taken (end - 5) (drop 5 s), bytes-most (drop (end + 1) s), length-drop (end + 1) s))
@@ -152,7 +174,7 @@ module _ (s : List ℕ) (answer : Frame) (r : Reads s (read s) answer) where
   pub reads-text : rowText s (numbers (length s) answer) ≡ text (read s)
   reads-text = composes s answer (r .within) ∙ ap text (r .means)
 
-  pub reads-short : length (text (read s)) ≤ 3199
+  pub reads-short : length (text (read s)) ≤ 3299
   reads-short =
-      subst (λ (reading : Reading). length (text reading) ≤ 3199) (r .means)
+      subst (λ (reading : Reading). length (text reading) ≤ 3299) (r .means)
       (short s answer (r .within) (λ m e. read-short s m (sym (r .means) ∙ e)))

@@ -1,22 +1,26 @@
 -- What is printed: a line for each line of the input. Then the law that printing it character by character prints the same.
-use Prim.Native.Nat.{ℕ, suc, _+_, _<_, _≤_, max}
+use Prim.Native.Nat.{ℕ, suc, _+_, _*_, _<_, _≤_, max}
 use mathlib.Core.Path.{_≡_, refl, sym, ap, ap₂, _∙_}
 use mathlib.Core.Bool.{Bool, true, false, cond as pick}
-use mathlib.Core.List.{List, [], _∷_, _++_, append-nil}
+use mathlib.Core.List.{List, [], _∷_, _++_, append-nil, append-assoc}
 use native.Mathlib.Omega.{arith}
-use lib.ListN.{length, getD, take, drop, set, length-set, length-take}
+use native.Mathlib.Nat.{zero-add}
+use lib.ListN.{length, getD, take, drop, set, length-set, length-take, length-append}
 use lib.Seq.{take-all, getD-take}
 use lib.Dec.{eqb, ltb}
 use borrow.Author.Tests.{ne-eqb, lt-ltb, le-ltb, ltb-true, ltb-false, eqb-true}
-use Rattle.octets.specs.Lay.{Output, refuse, written, Came}
+use Rattle.octets.specs.Lay.{Output, refuse, written, over, Came}
 use Rattle.message.specs.Message.{Row, rows, least, leastIn, exact}
 use Rattle.message.specs.Read.{Reading, refused, read, byte, most}
 use Rattle.listing.specs.declared.Line.{Line}
 use Rattle.listing.specs.declared.Fed.{Fed}
 use Rattle.listing.specs.Cases.{either, by-test}
-use Rattle.listing.specs.Text.{chars, text}
+use Rattle.listing.specs.Text.{chars, pairs, text}
 use Rattle.listing.specs.Hexadecimal.{Decoded, notHexadecimal, frame, isDigit, hexadecimal}
 use Rattle.listing.specs.Line.{decoded}
+use Rattle.listing.specs.Pattern.{Added, composed, skip, row}
+use Rattle.listing.specs.Over.{length-over, over-append}
+use Rattle.listing.specs.Answer.{length-pairs}
 use Rattle.listing.specs.Run.{Held, stepped, run, opened, ended, capped, run-decoded}
 
 -- the line that is printed for a line
@@ -53,6 +57,42 @@ placed-short bytes out h = rw (lt-ltb (length out) (length bytes) h) (refl, refl
 
 pub placed-whole : (bytes out : List ℕ) → length bytes ≤ length out → Came (placed bytes out) (written (length bytes)) (bytes ++ drop (length bytes) out)
 placed-whole bytes out h = rw (le-ltb (length out) (length bytes) h) (refl, refl)
+
+-- a text, bytes in hexadecimal and a text, added from the start on
+module _ (head s tail out : List ℕ) (h : length head + (2 * length s + length tail) ≤ length out) {a : ℕ} {one : List ℕ} (first : Added head 0 out a one) where
+  long-one : length one ≡ length out
+  long-one = ap length (first .1) ∙ length-over head 0 out (omega arith)
+
+  pub room-two : a + length (pairs s) ≤ length one
+  room-two = omega (arith, first .0, long-one, length-pairs s)
+
+  module _ {b : ℕ} {two : List ℕ} (second : Added (pairs s) a one b two) where
+    long-two : length two ≡ length out
+    long-two = ap length (second .1) ∙ length-over (pairs s) a one room-two ∙ long-one
+
+    pub room-three : b + length tail ≤ length two
+    room-three = omega (arith, first .0, second .0, long-two, length-pairs s)
+
+    pub three-added : {end : ℕ} {three : List ℕ} → Added tail b two end three → Came (placed (head ++ (pairs s ++ tail)) out) (written end) three
+    three-added {end} {three} third =
+        let body = head ++ pairs s in
+        let whole = head ++ (pairs s ++ tail) in
+        let n : 0 + length body ≡ b = rw length-append (omega (arith, first .0, second .0)) in
+        let e₂ : two ≡ over body 0 out = second .1 ∙ (rw (first .0, first .1) (over-append head (pairs s) 0 out (omega arith))) in
+        let e₃ : three ≡ over (body ++ tail) 0 out = third .1 ∙ (rw (← n, e₂) (over-append body tail 0 out (omega (arith, length-pairs s, length-append head (pairs s))))) in
+        let size : length whole ≡ end = simp length-append (omega (arith, first .0, second .0, third .0)) in
+        let w = placed-whole whole out (omega (arith, third .0, second .0, first .0, length-pairs s)) in
+        (ap written (sym size) ∙ w .0, e₃ ∙ (rw (append-assoc head (pairs s) tail, zero-add)) ∙ w .1)
+
+-- row k of a table with its marks filled by numbers, from number 1 on
+abbrev pub filling : List ℕ → ℕ → List ℕ → List ℕ
+filling table k v = composed [] (row (skip k table)) v 1
+
+-- the same, then bytes in hexadecimal, then a text, laid into a buffer; 9 also for a row above 130 characters
+abbrev pub sentenced : List ℕ → ℕ → List ℕ → List ℕ → List ℕ → List ℕ → Output
+sentenced table k v s tail out =
+    pick (ltb 130 (length (row (skip k table)))) (refuse 9 out)
+    (placed (filling table k v ++ (pairs s ++ tail)) out)
 
 -- What one character of the input does, and what is printed then.
 pub record Turn : Type 0 where

@@ -96,6 +96,12 @@ module _ {rest : List ℕ} {at : ℕ} {out whole : List ℕ} {from : ℕ} {out�
 pub left-none : (at : ℕ) (out whole : List ℕ) (from : ℕ) (out₀ : List ℕ) → Left [] at out whole from out₀ → Added whole from out₀ at out
 left-none at out whole from out₀ l = (omega (arith, l .behind), sym (over-nil at out) ∙ l .gives)
 
+-- a text added from the start on
+pub one-added : (xs out out′ : List ℕ) (n : ℕ) → length xs ≤ length out → Added xs 0 out n out′ → (n ≤ length out′) × (take n out′ ≡ xs)
+one-added xs out out′ n h a =
+    let size : length out′ ≡ length out = ap length (a .1) ∙ length-over xs 0 out (omega arith) in
+    (omega (arith, a .0), rw (a .1) (take-at xs (drop (0 + length xs) out) n (omega (arith, a .0))))
+
 -- two texts added from the start on
 pub two-added : (xs ys out out′ out″ : List ℕ) (m n : ℕ) → length xs + length ys ≤ length out → Added xs 0 out m out′ → Added ys m out′ n out″
     → (n ≤ length out″) × (take n out″ ≡ xs ++ ys)
@@ -110,11 +116,11 @@ over-whole : (xs out : List ℕ) → length xs ≡ length out → over xs 0 out 
 over-whole xs out e = rw (zero-add, drop-of-length-le out {i = length xs} (omega arith), append-nil)
 
 -- the decimal digits behind the zeros in front
-pub decimal-cut : (n r : ℕ) (d zeros : List ℕ) → length zeros ≡ 10 → d ≡ over (digits 10 10 n) 0 zeros → drop r d ≡ trimmed d → take (10 - r) (drop r d) ≡ decimal n
+pub decimal-cut : (n r : ℕ) (d zeros : List ℕ) → length zeros ≡ 20 → d ≡ over (digits 10 20 n) 0 zeros → drop r d ≡ trimmed d → take (20 - r) (drop r d) ≡ decimal n
 decimal-cut n r d zeros z e t =
-    let w : d ≡ digits 10 10 n = e ∙ over-whole (digits 10 10 n) zeros (length-digits 10 10 n ∙ sym z) in
-    let l : length d ≡ 10 = ap length w ∙ length-digits 10 10 n in
-    take-all (10 - r) (drop r d) (simp length-drop (omega arith)) ∙ t ∙ ap trimmed w
+    let w : d ≡ digits 10 20 n = e ∙ over-whole (digits 10 20 n) zeros (length-digits 10 20 n ∙ sym z) in
+    let l : length d ≡ 20 = ap length w ∙ length-digits 10 20 n in
+    take-all (20 - r) (drop r d) (simp length-drop (omega arith)) ∙ t ∙ ap trimmed w
 
 pub pairs-at : (s : List ℕ) (i : ℕ) → i < length s → pairs (drop i s) ≡ digits 16 2 (getD s i 0) ++ pairs (drop (i + 1) s)
 unfolding pairs
@@ -168,6 +174,19 @@ composed-feed s t v i k h e = rw (drop-cons t i 0 h, e)
 pub composed-none : (s t v : List ℕ) (i k : ℕ) → length t ≤ i → composed s (row (drop i t)) v k ≡ []
 unfolding composed row
 composed-none s t v i k h = rw (drop-of-length-le t {i = i} h)
+
+-- a row's length, character by character
+pub row-next : (t : List ℕ) (i : ℕ) → i < length t → (getD t i 0 ≡ 10 → ⊥) → length (row (drop i t)) ≡ length (row (drop (i + 1) t)) + 1
+unfolding row
+row-next t i h n = rw (add-one i, drop-cons t i 0 h, ne-eqb (getD t i 0) 10 n) (omega arith)
+
+pub row-feed : (t : List ℕ) (i : ℕ) → i < length t → getD t i 0 ≡ 10 → length (row (drop i t)) ≡ 0
+unfolding row
+row-feed t i h e = rw (drop-cons t i 0 h, e)
+
+pub row-none : (t : List ℕ) (i : ℕ) → length t ≤ i → length (row (drop i t)) ≡ 0
+unfolding row
+row-none t i h = rw (drop-of-length-le t {i = i} h)
 
 -- rows passed
 pub skip-next : (t : List ℕ) (i left : ℕ) → i < length t → (left ≡ 0 → ⊥) → skip (leftAfter (getD t i 0) left) (drop (i + 1) t) ≡ skip left (drop i t)

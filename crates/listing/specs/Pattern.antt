@@ -50,7 +50,7 @@ unfoldable pub row : List ℕ → List ℕ
 row [] = []
 row (c ∷ rest) = pick (eqb c 10) [] (c ∷ row rest)
 
-abbrev tabled : List (List ℕ) → List ℕ
+abbrev pub tabled : List (List ℕ) → List ℕ
 tabled [] = []
 tabled (first ∷ rest) = first ++ (10 ∷ tabled rest)
 

@@ -29,9 +29,9 @@ trimmed [] = []
 trimmed (a ∷ []) = a ∷ []
 trimmed (a ∷ b ∷ rest) = pick (eqb a 48) (trimmed (b ∷ rest)) (a ∷ b ∷ rest)
 
--- a number of at most ten digits
+-- a number of at most twenty digits, as one of 64 bits is
 abbrev pub decimal : ℕ → List ℕ
-decimal n = trimmed (digits 10 10 n)
+decimal n = trimmed (digits 10 20 n)
 
 abbrev pub address : ℕ → List ℕ
 address n = digits 16 8 n

@@ -3,13 +3,14 @@ ghost use mathlib.Core.Path.{_≡_};
 ghost use mathlib.Core.List.{_++_};
 ghost use Prim.Native.Nat.{_+_, _*_, _<_, _≤_, min};
 ghost use lib.ListN.{length, getD, drop};
+ghost use lib.Dec.{ltb};
 ghost use Rattle.octets.specs.Lay.{over, Came};
 ghost use Rattle.listing.specs.Text.{digit, digits, trimmed, decimal, address, pairs, bytes, program, form};
 ghost use Rattle.listing.specs.Hexadecimal.{nibble, frame};
 ghost use Rattle.listing.specs.Line.{fresh, next, kept, isFoul, decoded};
 ghost use Rattle.listing.specs.Pattern.{Added, part, takes, piece, composed, leftAfter, skip, row, patterns, few, request, refusalRow, numbers};
 ghost use Rattle.listing.specs.Run.{held};
-ghost use Rattle.listing.specs.Listing.{printed, placed, fed, closed, Feeds};
+ghost use Rattle.listing.specs.Listing.{printed, placed, sentenced, fed, closed, Feeds};
 use octets::Written;
 use reader::Frame;
 
@@ -131,8 +132,8 @@ fn decimal(n: usize, out: &mut [u8], at: usize) -> usize
     requires { ⌜ at + length (decimal n) ≤ length (now out) ⌝ }
     ensures { λ r. ⌜ Added (decimal n) at (now (out .entry)) r (now (out .exit)) ⌝ }
 {
-    let mut d = [0u8; 10];
-    spell(n, 10, 10, &mut d, 0);
+    let mut d = [0u8; 20];
+    spell(n, 10, 20, &mut d, 0);
     let from = zeros(&d);
     add(&d[from..], out, at)
 }
@@ -273,6 +274,22 @@ fn row_at(table: &[u8], k: usize) -> usize
         i += 1;
     }
     i
+}
+
+// The length of the row that begins at a place of a table.
+fn row_length(table: &[u8], from: usize) -> usize
+    ensures { λ r. ⌜ r ≡ length (row (drop from (now (table .entry)))) ⌝ }
+{
+    let mut i = from;
+    let mut n = 0;
+    while i < table.len() {
+        if table[i] == b'\n' {
+            return n;
+        }
+        n += 1;
+        i += 1;
+    }
+    n
 }
 
 // Writes the pattern that begins at a place of a table, with the values in the places of its marks, from number 1 on.
@@ -466,12 +483,70 @@ fn place(src: &[u8], out: &mut [u8]) -> Written
 pub fn show(s: &[u8], out: &mut [u8]) -> Written
     ensures { λ r. ⌜ Came (placed (printed (frame (now (s .entry)))) (now (out .entry))) r (now (out .exit)) ⌝ }
 {
-    let mut space = [0u8; 3200];
+    let mut space = [0u8; 3300];
     let answer = reader::read(s);
     let v = numbers(answer, s.len());
     let n = compose(s, &v, &mut space);
     let end = add(b"\n", &mut space, n);
     place(&space[..end], out)
+}
+
+// Row k of a table with its marks filled from number 1 on, # by a number and @ by an address; then bytes in hexadecimal, then a
+// text. Refusal 9 for a buffer that is too short, or a row above 130 characters.
+pub fn sentence(
+    table: &[u8],
+    k: usize,
+    v: &[usize],
+    s: &[u8],
+    tail: &[u8],
+    out: &mut [u8],
+) -> Written
+    ensures { λ r. ⌜ Came (sentenced (now (table .entry)) k (now (v .entry)) (now (s .entry)) (now (tail .entry)) (now (out .entry))) r (now (out .exit)) ⌝ }
+{
+    let from = row_at(table, k);
+    if 130 < row_length(table, from) {
+        return Written {
+            length: 0,
+            refusal: 9,
+        };
+    }
+    let none = [0u8; 0];
+    let mut space = [0u8; 3300];
+    let n = fill(&none, table, from, v, &mut space);
+    print(&space[..n], s, tail, out)
+}
+
+// A text, bytes in hexadecimal, a text. Refusal 9 for a buffer that is too short.
+pub fn print(head: &[u8], s: &[u8], tail: &[u8], out: &mut [u8]) -> Written
+    ensures { λ r. ⌜ Came (placed (now (head .entry) ++ (pairs (now (s .entry)) ++ now (tail .entry))) (now (out .entry))) r (now (out .exit)) ⌝ }
+{
+    if lacks(head.len(), s.len(), tail.len(), out.len()) {
+        return Written {
+            length: 0,
+            refusal: 9,
+        };
+    }
+    let a = add(head, out, 0);
+    let b = pairs(s, out, a);
+    let end = add(tail, out, b);
+    Written {
+        length: end,
+        refusal: 0,
+    }
+}
+
+// Whether a line's parts take more than the room there is.
+fn lacks(head: usize, bytes: usize, tail: usize, room: usize) -> bool
+    ensures { λ r. ⌜ r ≡ ltb room (head + (2 * bytes + tail)) ⌝ }
+{
+    if room < head {
+        return true;
+    }
+    let behind = room - head;
+    if behind < tail {
+        return true;
+    }
+    (behind - tail) / 2 < bytes
 }
 
 // A line that ends here is no hexadecimal: a character is no digit, or a digit waits for the second one.

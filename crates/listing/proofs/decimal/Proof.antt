@@ -29,7 +29,7 @@ part-add-end c = search needs
 add-requires : tie.Need-add-requires
 add-requires c κs =
     let n = c .before .before .before .before .before .before .before .before .before .args .n in
-    rw (decimal-cut n (c .before .before .before .zeros .result) (c .before .before .before .before .before .before .spell .last .1 .1 .1 .0) (replicate 10 0) refl (c .before .before .before .before .before .before .spell .ensures) (c .before .before .before .zeros .ensures .1)) (c .before .before .before .before .before .before .before .before .before .pre)
+    rw (decimal-cut n (c .before .before .before .zeros .result) (c .before .before .before .before .before .before .spell .last .1 .1 .1 .0) (replicate 20 0) refl (c .before .before .before .before .before .before .spell .ensures) (c .before .before .before .zeros .ensures .1)) (c .before .before .before .before .before .before .before .before .before .pre)
 
 same-length : tie.Need-same-length
 same-length c = search needs
@@ -37,7 +37,7 @@ same-length c = search needs
 returns : tie.Need-returns
 returns c =
     let n = c .before .before .before .before .before .before .before .before .before .before .before .before .args .n in
-    rw (decimal-cut n (c .before .before .before .before .before .before .zeros .result) (c .before .before .before .before .before .before .before .before .before .spell .last .1 .1 .1 .0) (replicate 10 0) refl (c .before .before .before .before .before .before .before .before .before .spell .ensures) (c .before .before .before .before .before .before .zeros .ensures .1)) at (c .before .before .add .ensures)
+    rw (decimal-cut n (c .before .before .before .before .before .before .zeros .result) (c .before .before .before .before .before .before .before .before .before .spell .last .1 .1 .1 .0) (replicate 20 0) refl (c .before .before .before .before .before .before .before .before .before .spell .ensures) (c .before .before .before .before .before .before .zeros .ensures .1)) at (c .before .before .add .ensures)
 
 pub decimal-spec : {M : Type 1} → statement M
 decimal-spec =

@@ -16,7 +16,7 @@ use Rattle.listing.proofs.show.Statement.{statement}
 use Rattle.listing.proofs.show.Tie as tie
 
 -- the text and its line feed in the local buffer
-module _ (s : List ℕ) (answer : Frame) (r : Reads s (read s) answer) (v : List ℕ) (e : v ≡ numbers (length s) answer) (zeros : List ℕ) (z : length zeros ≡ 3200) (space : List ℕ) (n : ℕ)
+module _ (s : List ℕ) (answer : Frame) (r : Reads s (read s) answer) (v : List ℕ) (e : v ≡ numbers (length s) answer) (zeros : List ℕ) (z : length zeros ≡ 3300) (space : List ℕ) (n : ℕ)
     (a : Added (rowText s v) 0 zeros n space) where
   texted : Added (text (read s)) 0 zeros n space
   texted = rw (e, reads-text s answer r) at a
@@ -55,17 +55,17 @@ slice-aggregate-add-2 : tie.Need-slice-aggregate-add-2
 slice-aggregate-add-2 c = search needs
 
 add-requires : tie.Need-add-requires
-add-requires c κs = room (c .before .before .before .before .before .before .before .before .before .before .args .s .now) (c .before .before .before .before .before .before .before .read .result) (c .before .before .before .before .before .before .before .read .ensures) (c .before .before .before .before .before .before .numbers .result) (c .before .before .before .before .before .before .numbers .ensures) (replicate 3200 0) (length-replicate {A = ℕ} 3200 0) (c .before .before .before .compose .last .1 .1 .0) (c .before .before .before .compose .result) (c .before .before .before .compose .ensures)
+add-requires c κs = room (c .before .before .before .before .before .before .before .before .before .before .args .s .now) (c .before .before .before .before .before .before .before .read .result) (c .before .before .before .before .before .before .before .read .ensures) (c .before .before .before .before .before .before .numbers .result) (c .before .before .before .before .before .before .numbers .ensures) (replicate 3300 0) (length-replicate {A = ℕ} 3300 0) (c .before .before .before .compose .last .1 .1 .0) (c .before .before .before .compose .result) (c .before .before .before .compose .ensures)
 
 array-share-prefix-space : tie.Need-array-share-prefix-space
 array-share-prefix-space c =
-    both (c .before .before .before .before .before .before .before .before .before .before .before .before .args .s .now) (c .before .before .before .before .before .before .before .before .before .read .result) (c .before .before .before .before .before .before .before .before .before .read .ensures) (c .before .before .before .before .before .before .before .before .numbers .result) (c .before .before .before .before .before .before .before .before .numbers .ensures) (replicate 3200 0) (length-replicate {A = ℕ} 3200 0) (c .before .before .before .before .before .compose .last .1 .1 .0) (c .before .before .before .before .before .compose .result) (c .before .before .before .before .before .compose .ensures)
+    both (c .before .before .before .before .before .before .before .before .before .before .before .before .args .s .now) (c .before .before .before .before .before .before .before .before .before .read .result) (c .before .before .before .before .before .before .before .before .before .read .ensures) (c .before .before .before .before .before .before .before .before .numbers .result) (c .before .before .before .before .before .before .before .before .numbers .ensures) (replicate 3300 0) (length-replicate {A = ℕ} 3300 0) (c .before .before .before .before .before .compose .last .1 .1 .0) (c .before .before .before .before .before .compose .result) (c .before .before .before .before .before .compose .ensures)
     (c .before .add .last .1 .0) (c .before .add .result) (c .before .add .ensures) .0
 
 slice-aggregate-place : tie.Need-slice-aggregate-place
 slice-aggregate-place c =
     sym (length-take-le (c .before .before .add .result) (c .before .before .add .last .1 .0)
-    (both (c .before .before .before .before .before .before .before .before .before .before .before .before .before .args .s .now) (c .before .before .before .before .before .before .before .before .before .before .read .result) (c .before .before .before .before .before .before .before .before .before .before .read .ensures) (c .before .before .before .before .before .before .before .before .before .numbers .result) (c .before .before .before .before .before .before .before .before .before .numbers .ensures) (replicate 3200 0) (length-replicate {A = ℕ} 3200 0) (c .before .before .before .before .before .before .compose .last .1 .1 .0) (c .before .before .before .before .before .before .compose .result) (c .before .before .before .before .before .before .compose .ensures)
+    (both (c .before .before .before .before .before .before .before .before .before .before .before .before .before .args .s .now) (c .before .before .before .before .before .before .before .before .before .before .read .result) (c .before .before .before .before .before .before .before .before .before .before .read .ensures) (c .before .before .before .before .before .before .before .before .before .numbers .result) (c .before .before .before .before .before .before .before .before .before .numbers .ensures) (replicate 3300 0) (length-replicate {A = ℕ} 3300 0) (c .before .before .before .before .before .before .compose .last .1 .1 .0) (c .before .before .before .before .before .before .compose .result) (c .before .before .before .before .before .before .compose .ensures)
     (c .before .before .add .last .1 .0) (c .before .before .add .result) (c .before .before .add .ensures) .0))
 
 place-requires : tie.Need-place-requires
@@ -76,7 +76,7 @@ same-length c = search needs
 
 returns : tie.Need-returns
 returns c =
-    rw (both (c .before .before .before .before .before .before .before .before .before .before .before .before .before .before .before .before .before .args .s .now) (c .before .before .before .before .before .before .before .before .before .before .before .before .before .before .read .result) (c .before .before .before .before .before .before .before .before .before .before .before .before .before .before .read .ensures) (c .before .before .before .before .before .before .before .before .before .before .before .before .before .numbers .result) (c .before .before .before .before .before .before .before .before .before .before .before .before .before .numbers .ensures) (replicate 3200 0) (length-replicate {A = ℕ} 3200 0) (c .before .before .before .before .before .before .before .before .before .before .compose .last .1 .1 .0) (c .before .before .before .before .before .before .before .before .before .before .compose .result) (c .before .before .before .before .before .before .before .before .before .before .compose .ensures)
+    rw (both (c .before .before .before .before .before .before .before .before .before .before .before .before .before .before .before .before .before .args .s .now) (c .before .before .before .before .before .before .before .before .before .before .before .before .before .before .read .result) (c .before .before .before .before .before .before .before .before .before .before .before .before .before .before .read .ensures) (c .before .before .before .before .before .before .before .before .before .before .before .before .before .numbers .result) (c .before .before .before .before .before .before .before .before .before .before .before .before .before .numbers .ensures) (replicate 3300 0) (length-replicate {A = ℕ} 3300 0) (c .before .before .before .before .before .before .before .before .before .before .compose .last .1 .1 .0) (c .before .before .before .before .before .before .before .before .before .before .compose .result) (c .before .before .before .before .before .before .before .before .before .before .compose .ensures)
     (c .before .before .before .before .before .before .add .last .1 .0) (c .before .before .before .before .before .before .add .result) (c .before .before .before .before .before .before .add .ensures) .1) at (c .before .before .place .ensures)
 
 pub show-spec : {M : Type 1} → statement M
