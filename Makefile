@@ -71,7 +71,7 @@ $(DRIVER)/probe: tests/driver/probe.c $(PARTS:%=$(DRIVER)/%.o) target/staticlib/
 
 # The simulator whose boot ROM the driver is tested with; without it that test is skipped.
 simh:
-	@command -v pdp11 >/dev/null || apt-get install -y simh >/dev/null 2>&1 || echo "make: the package simh cannot be had"
+	@command -v pdp11 >/dev/null || timeout 120 apt-get install -y simh >/dev/null 2>&1 || echo "make: the package simh cannot be had"
 
 # The speed of a load over a line in memory.
 line-bench: driver
