@@ -278,7 +278,7 @@ static int file_finished(dumping *d)
         aside_remove(&d->file);
     int recorded = write_record(d, status, status == 0 ? d->path : NULL);
     if (status == 0)
-        printf("%s is on the disk, and %s.record tells of it.\n", d->path, d->path);
+        printf("%s is on the disk%s.\n", d->path, recorded == 0 ? ", with its record" : ", but without a record");
     return status == 0 ? recorded : status;
 }
 

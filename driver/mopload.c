@@ -185,7 +185,7 @@ static int read_image(loading *l)
         return status;
     l->image = mop_image_check(l->file.bytes, l->file.length, l->settings.segment_size);
     if (l->image.refusal != 0)
-        return complain(STATUS_IMAGE, "%s is refused (%d): %s", l->path, l->image.refusal,
+        return complain(STATUS_IMAGE, "%s is refused (%d): %s; mopimage --check tells more", l->path, l->image.refusal,
             refusal_words(l->image.refusal));
     progress_start(&l->progress, "segments", l->image.segments);
     return 0;
