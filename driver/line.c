@@ -9,6 +9,7 @@
 #include <signal.h>
 #include <string.h>
 #include <sys/ioctl.h>
+#include <sys/signalfd.h>
 #include <sys/socket.h>
 #include <time.h>
 #include <unistd.h>
@@ -22,31 +23,19 @@
 
 const uint8_t ASSISTANCE[ADDRESS_LENGTH] = {0xAB, 0x00, 0x00, 0x01, 0x00, 0x00};
 
-static volatile sig_atomic_t signal_came;
-static sigset_t signals_let_in;
+/* Readable once a signal has come; -1 before signals_catch. */
+static int signal_fd = -1;
 
-static void on_signal(int number)
+int signals_catch(void)
 {
-    signal_came = number;
-}
-
-void signals_catch(void)
-{
-    static const int caught[] = {SIGINT, SIGTERM, SIGHUP};
-    struct sigaction action = {.sa_handler = on_signal};
-    sigset_t blocked;
-    sigemptyset(&blocked);
-    sigemptyset(&action.sa_mask);
-    for (size_t i = 0; i < sizeof caught / sizeof caught[0]; i++) {
-        sigaddset(&blocked, caught[i]);
-        sigaction(caught[i], &action, NULL);
-    }
-    sigprocmask(SIG_BLOCK, &blocked, &signals_let_in);
-}
-
-bool signals_came(void)
-{
-    return signal_came != 0;
+    sigset_t caught;
+    sigemptyset(&caught);
+    sigaddset(&caught, SIGINT);
+    sigaddset(&caught, SIGTERM);
+    sigaddset(&caught, SIGHUP);
+    sigprocmask(SIG_BLOCK, &caught, NULL);
+    signal_fd = signalfd(-1, &caught, SFD_CLOEXEC);
+    return signal_fd >= 0 ? 0 : complain(STATUS_OTHER, "no way to wait for signals: %s", strerror(errno));
 }
 
 int64_t clock_now(void)
@@ -269,11 +258,11 @@ static line_event await(const line *l, int64_t deadline)
     int64_t left = deadline - clock_now();
     left = left < 0 ? 0 : left;
     struct timespec limit = {.tv_sec = left / 1000, .tv_nsec = left % 1000 * 1000000};
-    struct pollfd ready = {.fd = l->socket, .events = POLLIN};
-    int n = ppoll(&ready, 1, &limit, &signals_let_in);
-    if (signals_came())
+    struct pollfd ready[] = {{.fd = l->socket, .events = POLLIN}, {.fd = signal_fd, .events = POLLIN}};
+    ppoll(ready, 2, &limit, NULL);
+    if (ready[1].revents != 0)
         return LINE_SIGNAL;
-    return n > 0 ? LINE_FRAME : LINE_QUIET;
+    return ready[0].revents != 0 ? LINE_FRAME : LINE_QUIET;
 }
 
 line_event line_receive(line *l, line_frame *frame, int64_t deadline)

@@ -78,8 +78,8 @@ line_event line_receive(line *l, line_frame *frame, int64_t deadline);
 /* Milliseconds of a clock that never goes back. */
 int64_t clock_now(void);
 
-/* Interrupt, hangup and termination end line_receive, and nothing else. */
-void signals_catch(void);
-bool signals_came(void);
+/* From now on interrupt, hangup and termination end line_receive, and nothing
+ * else: a file that is being written is written. 0 or an exit status. */
+int signals_catch(void);
 
 #endif

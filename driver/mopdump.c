@@ -278,7 +278,7 @@ static int file_finished(dumping *d)
         aside_remove(&d->file);
     int recorded = write_record(d, status, status == 0 ? d->path : NULL);
     if (status == 0)
-        printf("%s is on the disk, and %s.record tells of it.\n", d->path, d->path);
+        printf("%s is on the disk%s.\n", d->path, recorded == 0 ? ", with its record" : ", but without a record");
     return status == 0 ? recorded : status;
 }
 
@@ -295,7 +295,7 @@ static int check_room(const host *h, const dumping *d)
 static int serve(host *h, dumping *d)
 {
     int status = host_run(h);
-    progress_end(&d->progress);
+    words_bar_end();
     dump_words(stdout, &d->session, &d->settings);
     int filed = status == 0 && d->session.verdict == 1 ? file_finished(d) : file_unfinished(d, status);
     if (status == 0)
@@ -326,7 +326,8 @@ int main(int count, char **words)
     d.session = mop_dump_start();
     words_program("mopdump");
     int status = options(count, words, &h, &d);
-    signals_catch();
+    if (status == 0)
+        status = signals_catch();
     if (status == 0)
         status = run(&h, &d);
     free(d.buffer);

@@ -185,7 +185,7 @@ static int read_image(loading *l)
         return status;
     l->image = mop_image_check(l->file.bytes, l->file.length, l->settings.segment_size);
     if (l->image.refusal != 0)
-        return complain(STATUS_IMAGE, "%s is refused (%d): %s", l->path, l->image.refusal,
+        return complain(STATUS_IMAGE, "%s is refused (%d): %s; mopimage --check tells more", l->path, l->image.refusal,
             refusal_words(l->image.refusal));
     progress_start(&l->progress, "segments", l->image.segments);
     return 0;
@@ -209,7 +209,7 @@ static int run(host *h, loading *l)
     status = check_room(h, l);
     if (status == 0) {
         status = host_run(h);
-        progress_end(&l->progress);
+        words_bar_end();
         load_words(stdout, &l->session, &l->image);
         printf("%" PRIu64 " frames were sent by the session.\n", l->session.sent);
     }
@@ -225,7 +225,8 @@ int main(int count, char **words)
     l.session = mop_load_start();
     words_program("mopload");
     int status = options(count, words, &h, &l);
-    signals_catch();
+    if (status == 0)
+        status = signals_catch();
     if (status == 0)
         status = run(&h, &l);
     free(l.file.bytes);

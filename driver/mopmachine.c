@@ -277,7 +277,8 @@ int main(int count, char **words)
     static machine_end m = {.common = {.timer = 2000, .wait = 600}, .settings = {.dump_most = 1024}};
     words_program("mopmachine");
     int status = options(count, words, &m);
-    signals_catch();
+    if (status == 0)
+        status = signals_catch();
     if (status == 0)
         status = fill(&m);
     if (status == 0)

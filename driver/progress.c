@@ -4,6 +4,8 @@
 #include <stdio.h>
 #include <unistd.h>
 
+#include "words.h"
+
 #define WIDTH 40
 
 void progress_start(progress *p, const char *unit, uint64_t total)
@@ -19,7 +21,7 @@ static void bar(progress *p, uint64_t done)
     text[WIDTH] = '\0';
     printf("\r[%s] %3" PRIu64 " %%  %" PRIu64 " of %" PRIu64 " %s ", text, done * 100 / p->total, done, p->total,
         p->unit);
-    p->open = true;
+    words_bar();
 }
 
 void progress_show(progress *p, uint64_t done)
@@ -34,11 +36,4 @@ void progress_show(progress *p, uint64_t done)
     else
         printf("%" PRIu64 " of %" PRIu64 " %s\n", done, p->total, p->unit);
     fflush(stdout);
-}
-
-void progress_end(progress *p)
-{
-    if (p->open)
-        putchar('\n');
-    p->open = false;
 }

@@ -11,13 +11,9 @@ typedef struct progress {
     uint64_t total;
     uint64_t shown; /* what was shown last: permille on a terminal, tenths elsewhere */
     bool terminal;
-    bool open; /* a bar stands on the terminal's line */
 } progress;
 
 void progress_start(progress *p, const char *unit, uint64_t total);
 void progress_show(progress *p, uint64_t done);
-
-/* Before anything else is printed. */
-void progress_end(progress *p);
 
 #endif

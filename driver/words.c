@@ -2,6 +2,7 @@
 
 #include <inttypes.h>
 #include <stdarg.h>
+#include <stdbool.h>
 
 static const char *program = "mop";
 
@@ -10,10 +11,25 @@ void words_program(const char *name)
     program = name;
 }
 
+static bool bar_stands;
+
+void words_bar(void)
+{
+    bar_stands = true;
+}
+
+void words_bar_end(void)
+{
+    if (bar_stands)
+        putchar('\n');
+    bar_stands = false;
+}
+
 int complain(int status, const char *format, ...)
 {
     va_list values;
     va_start(values, format);
+    words_bar_end();
     fflush(stdout);
     fprintf(stderr, "%s: ", program);
     vfprintf(stderr, format, values);

@@ -26,6 +26,11 @@ typedef enum status {
 /* The program's name, for complain. */
 void words_program(const char *name);
 
+/* A bar stands on the terminal's line; and the line's end, before anything
+ * else is printed. */
+void words_bar(void);
+void words_bar_end(void);
+
 /* Prints a sentence on standard error and gives the status back. */
 int complain(int status, const char *format, ...) __attribute__((format(printf, 2, 3)));
 
