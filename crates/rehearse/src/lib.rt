@@ -30,7 +30,14 @@ fn least(a: usize, b: usize) -> usize
     if a < b { a } else { b }
 }
 
-// The first n bytes of a buffer.
+// A part of some bytes, cut at their end.
+fn part(s: &[u8], from: usize, length: usize) -> &[u8] {
+    let start = least(from, s.len());
+    let end = start + least(length, s.len() - start);
+    &s[start..end]
+}
+
+// Prints the first n bytes of a buffer.
 fn print(out: &[u8], n: usize) {
     io::write_all(STDOUT_FILENO, part(out, 0, n));
 }
@@ -74,7 +81,8 @@ fn join(
     queue::join(waiting, frame.len())
 }
 
-// What a step of the machine leaves: its frame is printed and joins the queue.
+// What a step of the machine leaves: its frame is printed and joins the queue. No step of a run is refused: the theorems
+// machine-never-refused and host-never-refused of link_load.
 fn machine_did(
     setup: Setup,
     letter: u8,
@@ -392,13 +400,6 @@ fn prepare(words: bool, script: Script) -> Setup {
         },
         words,
     }
-}
-
-// A part of the input.
-fn part(input: &[u8], from: usize, length: usize) -> &[u8] {
-    let start = least(from, input.len());
-    let end = start + least(length, input.len() - start);
-    &input[start..end]
 }
 
 // The events on an image of so many segments, and the last line.
