@@ -148,7 +148,7 @@ sanitize: $(OUT)/guards $(OUT)/load_and_dump $(OUT)/page
 # For those who edit the C sources: style and two more readers of the code.
 CSOURCES = include/mop.h examples/c/load_and_dump.c $(wildcard tests/c/*.c tests/c/*.h) tests/proved/layout.c
 lint: $(OUT)/page.inc
-	clang-format --dry-run -Werror $(CSOURCES)
+	clang-format --dry-run -Werror $(CSOURCES) $(wildcard driver/*.[ch]) tests/driver/probe.c
 	cppcheck --quiet --std=c11 --error-exitcode=1 --enable=warning,style,performance,portability -Iinclude -I$(OUT) -DSTRUCTS=16 -DWRONG=1 $(filter %.c,$(CSOURCES))
 	clang-tidy --quiet --warnings-as-errors='*' $(filter %.c,$(CSOURCES)) -- -std=c11 -Iinclude -I$(OUT) -DSTRUCTS=16 -DWRONG=1
 

@@ -32,9 +32,8 @@ int host_open(host *h)
 static int step(host *h, const line_frame *frame)
 {
     uint8_t reply[MESSAGE_MOST];
-    mop_written answer = frame == NULL
-        ? h->calls->step(h->job, 1, NULL, 0, reply, sizeof reply)
-        : h->calls->step(h->job, 0, frame->bytes, frame->length, reply, sizeof reply);
+    mop_written answer = frame == NULL ? h->calls->step(h->job, 1, NULL, 0, reply, sizeof reply)
+                                       : h->calls->step(h->job, 0, frame->bytes, frame->length, reply, sizeof reply);
     if (answer.refusal > 4)
         return complain(STATUS_OTHER, "the step is refused: %s", refusal_words(answer.refusal));
     h->unreadable += answer.refusal != 0;
@@ -78,8 +77,10 @@ static int silence(host *h)
 {
     if (h->calls->stage(h->job) != HOST_WAITING)
         return step(h, NULL);
-    return complain(STATUS_SILENT, "no machine asked within %" PRIu32 " seconds: is it on, on this line, and set to "
-        "boot from the network?", h->settings.wait);
+    return complain(STATUS_SILENT,
+        "no machine asked within %" PRIu32 " seconds: is it on, on this line, and set to "
+        "boot from the network?",
+        h->settings.wait);
 }
 
 int host_run(host *h)
@@ -111,8 +112,8 @@ int host_run(host *h)
 static void tell(const char *what, const direction *d)
 {
     if (d->lost != 0 || d->doubled != 0)
-        printf("Of %" PRIu64 " frames %s, %" PRIu64 " were lost and %" PRIu64 " doubled on purpose.\n", d->frames,
-            what, d->lost, d->doubled);
+        printf("Of %" PRIu64 " frames %s, %" PRIu64 " were lost and %" PRIu64 " doubled on purpose.\n", d->frames, what,
+            d->lost, d->doubled);
 }
 
 void host_close(host *h)

@@ -54,8 +54,8 @@ static int open_socket(line *l)
     if (l->socket >= 0)
         return 0;
     if (errno == EPERM || errno == EACCES)
-        return complain(STATUS_PERMISSION,
-            "no permission to use %s: run as root, or with the capability CAP_NET_RAW", l->name);
+        return complain(
+            STATUS_PERMISSION, "no permission to use %s: run as root, or with the capability CAP_NET_RAW", l->name);
     return complain(STATUS_INTERFACE, "no socket for Ethernet frames: %s", strerror(errno));
 }
 
@@ -190,8 +190,8 @@ int line_send(line *l, const uint8_t *to, const uint8_t *message, size_t length)
 {
     uint8_t frame[LONGEST] = {0};
     if (length > l->longest)
-        return complain(STATUS_INTERFACE, "a message of %zu bytes is too long for %s, which takes %u", length,
-            l->name, (unsigned)l->longest);
+        return complain(STATUS_INTERFACE, "a message of %zu bytes is too long for %s, which takes %u", length, l->name,
+            (unsigned)l->longest);
     memcpy(frame, to, ADDRESS_LENGTH);
     memcpy(frame + ADDRESS_LENGTH, l->address, ADDRESS_LENGTH);
     frame[12] = TYPE >> 8;

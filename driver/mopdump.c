@@ -10,7 +10,6 @@
 #include "host.h"
 #include "progress.h"
 #include "sha256.h"
-#include "steps.h"
 #include "words.h"
 
 #define ASK_MOST 1493 /* code 14 with more is above the Ethernet limit */
@@ -26,8 +25,8 @@ typedef struct dumping {
     mop_dump session;
     uint8_t *buffer;
     const char *path;
-    bool from;         /* --from was given */
-    mop_frame offer;   /* the machine's, once it came */
+    bool from;       /* --from was given */
+    mop_frame offer; /* the machine's, once it came */
     const host *host;
     aside file;
     bool begun;
@@ -44,12 +43,12 @@ static void before(void *job, line_frame *frame)
         d->offer = offer;
 }
 
-static mop_written step(void *job, uint8_t timer, const uint8_t *frame, size_t frame_length, uint8_t *reply,
-    size_t reply_length)
+static mop_written step(
+    void *job, uint8_t timer, const uint8_t *frame, size_t frame_length, uint8_t *reply, size_t reply_length)
 {
     dumping *d = job;
-    return dump_update(&d->session, d->settings, timer, frame, frame_length, d->buffer, d->settings.length, reply,
-        reply_length);
+    return mop_dump_update(
+        &d->session, d->settings, timer, frame, frame_length, d->buffer, d->settings.length, reply, reply_length);
 }
 
 /* A step that begins does not write to the buffer. */
@@ -58,8 +57,8 @@ static bool begins(const void *job, const line_frame *frame)
     const dumping *d = job;
     uint8_t reply[MESSAGE_MOST];
     mop_dump trial = mop_dump_start();
-    dump_update(&trial, d->settings, 0, frame->bytes, frame->length, d->buffer, d->settings.length, reply,
-        sizeof reply);
+    mop_dump_update(
+        &trial, d->settings, 0, frame->bytes, frame->length, d->buffer, d->settings.length, reply, sizeof reply);
     return trial.waiting == 0;
 }
 
@@ -89,37 +88,36 @@ static const host_job calls = {before, step, begins, stage, show};
 
 /* ---- The command line ------------------------------------------------ */
 
-static const char manual[] =
-    "NAME\n"
-    "  mopdump - file a machine's memory by MOP over Ethernet\n"
-    "\n"
-    "SYNOPSIS\n"
-    "  mopdump -i INTERFACE --from ADDRESS --length N -o FILE [--machine ADDRESS]\n"
-    "          [-C N] [-R N] [--timer MS] [--wait S] [--trace FILE]\n"
-    "\n"
-    "DESCRIPTION\n"
-    "  Waits for a machine to offer a dump, asks for N bytes of its memory from\n"
-    "  ADDRESS on, and files them in FILE. An offer to all hosts is answered with\n"
-    "  an offer of assistance (code 3); the machine then turns to this host.\n"
-    "\n"
-    "  The bytes go to FILE.part, made before the machine is asked; it is named\n"
-    "  FILE only when the dump is finished and on the disk. If it is not finished\n"
-    "  there is no FILE, and what came stays in FILE.part. FILE.record tells in\n"
-    "  either case what happened: the verdict, the session's numbers, the range,\n"
-    "  the date, the SHA-256 of the file. A FILE that exists is never replaced.\n"
-    "\n"
-    "OPTIONS\n"
-    "  --from ADDRESS, --length N\n"
-    "        The range; it ends at address 0xFFFFFFFF or before. Bytes beyond the\n"
-    "        end of the machine's memory come as 0.\n"
-    "  -o FILE, --output FILE\n"
-    "        Where the dump is filed.\n"
-    "  --machine ADDRESS\n"
-    "        Serve this machine alone, for example 08-00-2B-AA-BB-CC.\n"
-    "  -C N, --count N\n"
-    "        Bytes asked for at a time, 1 to 1493. Default 1024.\n"
-    "  -R N, --repeats N\n"
-    "        Repeats allowed for each frame, 0 to 255. Default 16.\n";
+static const char manual[] = "NAME\n"
+                             "  mopdump - file a machine's memory by MOP over Ethernet\n"
+                             "\n"
+                             "SYNOPSIS\n"
+                             "  mopdump -i INTERFACE --from ADDRESS --length N -o FILE [--machine ADDRESS]\n"
+                             "          [-C N] [-R N] [--timer MS] [--wait S] [--trace FILE]\n"
+                             "\n"
+                             "DESCRIPTION\n"
+                             "  Waits for a machine to offer a dump, asks for N bytes of its memory from\n"
+                             "  ADDRESS on, and files them in FILE. An offer to all hosts is answered with\n"
+                             "  an offer of assistance (code 3); the machine then turns to this host.\n"
+                             "\n"
+                             "  The bytes go to FILE.part, made before the machine is asked; it is named\n"
+                             "  FILE only when the dump is finished and on the disk. If it is not finished\n"
+                             "  there is no FILE, and what came stays in FILE.part. FILE.record tells in\n"
+                             "  either case what happened: the verdict, the session's numbers, the range,\n"
+                             "  the date, the SHA-256 of the file. A FILE that exists is never replaced.\n"
+                             "\n"
+                             "OPTIONS\n"
+                             "  --from ADDRESS, --length N\n"
+                             "        The range; it ends at address 0xFFFFFFFF or before. Bytes beyond the\n"
+                             "        end of the machine's memory come as 0.\n"
+                             "  -o FILE, --output FILE\n"
+                             "        Where the dump is filed.\n"
+                             "  --machine ADDRESS\n"
+                             "        Serve this machine alone, for example 08-00-2B-AA-BB-CC.\n"
+                             "  -C N, --count N\n"
+                             "        Bytes asked for at a time, 1 to 1493. Default 1024.\n"
+                             "  -R N, --repeats N\n"
+                             "        Repeats allowed for each frame, 0 to 255. Default 16.\n";
 
 static void help(void)
 {

@@ -153,8 +153,8 @@ static int make(command *c)
         return status;
     mop_image image = mop_image_check(file.bytes, file.length, SEGMENT);
     if (image.refusal != 0)
-        status = complain(STATUS_IMAGE, "the image would be refused (%d): %s", image.refusal,
-            refusal_words(image.refusal));
+        status =
+            complain(STATUS_IMAGE, "the image would be refused (%d): %s", image.refusal, refusal_words(image.refusal));
     else
         status = file_write(c->output, file.bytes, file.length);
     if (status == 0)
@@ -165,41 +165,40 @@ static int make(command *c)
 
 /* ---- The command line ------------------------------------------------ */
 
-static const char manual[] =
-    "NAME\n"
-    "  mopimage - make, list and check image files for mopload\n"
-    "\n"
-    "SYNOPSIS\n"
-    "  mopimage -o IMAGE [--transfer ADDRESS]\n"
-    "           {--at ADDRESS FILE | --srec FILE | --ihex FILE} ..\n"
-    "  mopimage --list IMAGE\n"
-    "  mopimage --check IMAGE\n"
-    "\n"
-    "DESCRIPTION\n"
-    "  Makes an image file from one or more inputs: the bytes of each with their\n"
-    "  addresses in the machine's memory, and the address where the machine is\n"
-    "  started. Inputs may come in any order and must not overlap; neighbours\n"
-    "  become one region, and there may be 64 regions.\n"
-    "\n"
-    "OPTIONS\n"
-    "  -o IMAGE, --output IMAGE\n"
-    "        The image file to make.\n"
-    "  --at ADDRESS FILE\n"
-    "        The bytes of FILE as they are, from ADDRESS on.\n"
-    "  --srec FILE, --ihex FILE\n"
-    "        Motorola S-records; Intel HEX. Their checksums are checked.\n"
-    "  --transfer ADDRESS\n"
-    "        Where the machine is started. It prevails over what an S-record or\n"
-    "        HEX file says; raw bytes say nothing, so there it must be given.\n"
-    "  --list IMAGE\n"
-    "        The regions and the transfer address.\n"
-    "  --check IMAGE\n"
-    "        Whether the library takes the image, and if not why, in words.\n"
-    "  --help\n"
-    "        This text.\n"
-    "\n"
-    "  Numbers are decimal, or hexadecimal (0x200), or octal (0o1000).\n"
-    "\n";
+static const char manual[] = "NAME\n"
+                             "  mopimage - make, list and check image files for mopload\n"
+                             "\n"
+                             "SYNOPSIS\n"
+                             "  mopimage -o IMAGE [--transfer ADDRESS]\n"
+                             "           {--at ADDRESS FILE | --srec FILE | --ihex FILE} ..\n"
+                             "  mopimage --list IMAGE\n"
+                             "  mopimage --check IMAGE\n"
+                             "\n"
+                             "DESCRIPTION\n"
+                             "  Makes an image file from one or more inputs: the bytes of each with their\n"
+                             "  addresses in the machine's memory, and the address where the machine is\n"
+                             "  started. Inputs may come in any order and must not overlap; neighbours\n"
+                             "  become one region, and there may be 64 regions.\n"
+                             "\n"
+                             "OPTIONS\n"
+                             "  -o IMAGE, --output IMAGE\n"
+                             "        The image file to make.\n"
+                             "  --at ADDRESS FILE\n"
+                             "        The bytes of FILE as they are, from ADDRESS on.\n"
+                             "  --srec FILE, --ihex FILE\n"
+                             "        Motorola S-records; Intel HEX. Their checksums are checked.\n"
+                             "  --transfer ADDRESS\n"
+                             "        Where the machine is started. It prevails over what an S-record or\n"
+                             "        HEX file says; raw bytes say nothing, so there it must be given.\n"
+                             "  --list IMAGE\n"
+                             "        The regions and the transfer address.\n"
+                             "  --check IMAGE\n"
+                             "        Whether the library takes the image, and if not why, in words.\n"
+                             "  --help\n"
+                             "        This text.\n"
+                             "\n"
+                             "  Numbers are decimal, or hexadecimal (0x200), or octal (0o1000).\n"
+                             "\n";
 
 static void help(void)
 {

@@ -7,12 +7,11 @@
 #include "files.h"
 #include "host.h"
 #include "progress.h"
-#include "steps.h"
 #include "words.h"
 
 #define FILE_MOST 67108864 /* bytes read; the library refuses long before */
-#define SEGMENT_MOST 1488 /* code 0 with more is above the Ethernet limit */
-#define SEGMENT_REST 10   /* what code 0 has beside the data */
+#define SEGMENT_MOST 1488  /* code 0 with more is above the Ethernet limit */
+#define SEGMENT_REST 10    /* what code 0 has beside the data */
 #define CODE_REQUEST_PROGRAM 8
 #define PROGRAM_PLACE 3 /* of the program type in code 8 */
 #define OPERATING_SYSTEM 2
@@ -50,19 +49,19 @@ static void before(void *job, line_frame *frame)
     } else {
         frame->bytes[PROGRAM_PLACE] = OPERATING_SYSTEM;
         if (!l->told)
-            printf("%s asks for a %s (type %d): its request goes to the library as type 2 (--accept-type %d).\n",
-                from, asked, request.program, request.program);
+            printf("%s asks for a %s (type %d): its request goes to the library as type 2 (--accept-type %d).\n", from,
+                asked, request.program, request.program);
     }
     l->told = true;
     fflush(stdout);
 }
 
-static mop_written step(void *job, uint8_t timer, const uint8_t *frame, size_t frame_length, uint8_t *reply,
-    size_t reply_length)
+static mop_written step(
+    void *job, uint8_t timer, const uint8_t *frame, size_t frame_length, uint8_t *reply, size_t reply_length)
 {
     loading *l = job;
-    return load_update(&l->session, l->settings, timer, l->file.bytes, l->file.length, frame, frame_length, reply,
-        reply_length);
+    return mop_load_update(
+        &l->session, l->settings, timer, l->file.bytes, l->file.length, frame, frame_length, reply, reply_length);
 }
 
 static bool begins(const void *job, const line_frame *frame)
@@ -70,8 +69,8 @@ static bool begins(const void *job, const line_frame *frame)
     const loading *l = job;
     uint8_t reply[MESSAGE_MOST];
     mop_load trial = mop_load_start();
-    load_update(&trial, l->settings, 0, l->file.bytes, l->file.length, frame->bytes, frame->length, reply,
-        sizeof reply);
+    mop_load_update(
+        &trial, l->settings, 0, l->file.bytes, l->file.length, frame->bytes, frame->length, reply, sizeof reply);
     return trial.waiting == 0;
 }
 
@@ -100,33 +99,32 @@ static const host_job calls = {before, step, begins, stage, show};
 
 /* ---- The command line ------------------------------------------------ */
 
-static const char manual[] =
-    "NAME\n"
-    "  mopload - load a program into a machine by MOP over Ethernet\n"
-    "\n"
-    "SYNOPSIS\n"
-    "  mopload -i INTERFACE [--machine ADDRESS] [-S N] [-R N] [--timer MS]\n"
-    "          [--accept-type N] [--wait S] [--trace FILE] IMAGE\n"
-    "\n"
-    "DESCRIPTION\n"
-    "  Waits for a machine to ask for a program, loads the image file IMAGE into\n"
-    "  it and starts it. A request to all hosts is answered with an offer of\n"
-    "  assistance (code 3); the machine then asks this host. The first machine\n"
-    "  that does so is served, and then the program ends. mopimage makes images.\n"
-    "  The last lines tell what the machine's memory holds.\n"
-    "\n"
-    "OPTIONS\n"
-    "  --machine ADDRESS\n"
-    "        Serve this machine alone, for example 08-00-2B-AA-BB-CC.\n"
-    "  -S N, --segment N\n"
-    "        Bytes of a segment, 1 to 1488. Default 512.\n"
-    "  -R N, --repeats N\n"
-    "        Repeats allowed for each frame, 0 to 255. Default 4.\n"
-    "  --accept-type N\n"
-    "        Serve a machine that asks for a secondary (0) or tertiary (1) loader\n"
-    "        too. Many boot ROMs ask for type 1. The library serves type 2, an\n"
-    "        operating system: the request's type is changed before the library\n"
-    "        sees it, and the program says so.\n";
+static const char manual[] = "NAME\n"
+                             "  mopload - load a program into a machine by MOP over Ethernet\n"
+                             "\n"
+                             "SYNOPSIS\n"
+                             "  mopload -i INTERFACE [--machine ADDRESS] [-S N] [-R N] [--timer MS]\n"
+                             "          [--accept-type N] [--wait S] [--trace FILE] IMAGE\n"
+                             "\n"
+                             "DESCRIPTION\n"
+                             "  Waits for a machine to ask for a program, loads the image file IMAGE into\n"
+                             "  it and starts it. A request to all hosts is answered with an offer of\n"
+                             "  assistance (code 3); the machine then asks this host. The first machine\n"
+                             "  that does so is served, and then the program ends. mopimage makes images.\n"
+                             "  The last lines tell what the machine's memory holds.\n"
+                             "\n"
+                             "OPTIONS\n"
+                             "  --machine ADDRESS\n"
+                             "        Serve this machine alone, for example 08-00-2B-AA-BB-CC.\n"
+                             "  -S N, --segment N\n"
+                             "        Bytes of a segment, 1 to 1488. Default 512.\n"
+                             "  -R N, --repeats N\n"
+                             "        Repeats allowed for each frame, 0 to 255. Default 4.\n"
+                             "  --accept-type N\n"
+                             "        Serve a machine that asks for a secondary (0) or tertiary (1) loader\n"
+                             "        too. Many boot ROMs ask for type 1. The library serves type 2, an\n"
+                             "        operating system: the request's type is changed before the library\n"
+                             "        sees it, and the program says so.\n";
 
 static void help(void)
 {

@@ -56,9 +56,9 @@ static int carry(machine_end *m, mop_machine_step step, const uint8_t *reply)
 static int start(machine_end *m)
 {
     uint8_t reply[MESSAGE_MOST];
-    mop_machine_step step = m->offer
-        ? mop_machine_start_dump(m->settings, m->memory.bytes, m->memory.length, reply, sizeof reply)
-        : mop_machine_start_load(m->settings, m->memory.bytes, m->memory.length, reply, sizeof reply);
+    mop_machine_step step =
+        m->offer ? mop_machine_start_dump(m->settings, m->memory.bytes, m->memory.length, reply, sizeof reply)
+                 : mop_machine_start_load(m->settings, m->memory.bytes, m->memory.length, reply, sizeof reply);
     memcpy(m->host, ASSISTANCE, ADDRESS_LENGTH);
     m->due = clock_now() + m->common.timer;
     return carry(m, step, reply);
@@ -71,8 +71,8 @@ static int timer(machine_end *m)
     m->asked += 1;
     if (asks(m) && m->asked > ASKS)
         memcpy(m->host, ASSISTANCE, ADDRESS_LENGTH);
-    mop_machine_step step = mop_machine_timer(
-        m->settings, m->machine, m->memory.bytes, m->memory.length, reply, sizeof reply);
+    mop_machine_step step =
+        mop_machine_timer(m->settings, m->machine, m->memory.bytes, m->memory.length, reply, sizeof reply);
     return carry(m, step, reply);
 }
 
@@ -99,8 +99,8 @@ static int take(machine_end *m, const line_frame *frame)
         return 0;
     m->asked = 0;
     m->limit = clock_now() + (int64_t)m->common.wait * 1000;
-    mop_machine_step step = mop_machine_frame(m->settings, m->machine, frame->bytes, frame->length, m->memory.bytes,
-        m->memory.length, reply, sizeof reply);
+    mop_machine_step step = mop_machine_frame(
+        m->settings, m->machine, frame->bytes, frame->length, m->memory.bytes, m->memory.length, reply, sizeof reply);
     return carry(m, step, reply);
 }
 
@@ -143,32 +143,31 @@ static int run(machine_end *m)
 
 /* ---- The command line ------------------------------------------------ */
 
-static const char manual[] =
-    "NAME\n"
-    "  mopmachine - be a machine that asks for a program or offers a dump\n"
-    "\n"
-    "SYNOPSIS\n"
-    "  mopmachine -i INTERFACE --memory N [--offer] [--fill FILE] [--save FILE]\n"
-    "             [-D N] [--timer MS] [--wait S] [--trace FILE]\n"
-    "\n"
-    "DESCRIPTION\n"
-    "  The machine end as a process, to rehearse a shift without the machine. It\n"
-    "  asks all hosts for a program (or, with --offer, offers a dump), then the\n"
-    "  host that answers, and ends when it is started (or the dump is complete).\n"
-    "\n"
-    "OPTIONS\n"
-    "  --memory N\n"
-    "        Bytes of memory, up to 16777216.\n"
-    "  --offer\n"
-    "        Offer a dump and not ask for a program.\n"
-    "  --fill FILE\n"
-    "        What the memory holds at first, from address 0 on; the rest is 0.\n"
-    "  --save FILE\n"
-    "        Write the memory to FILE at the end, however it ends.\n"
-    "  -D N, --dump-most N\n"
-    "        Bytes of a dump reply at most, 1 to 1493. Default 1024.\n"
-    "  --device N, --processor N\n"
-    "        What it says it is, 0 to 255. Default 0.\n";
+static const char manual[] = "NAME\n"
+                             "  mopmachine - be a machine that asks for a program or offers a dump\n"
+                             "\n"
+                             "SYNOPSIS\n"
+                             "  mopmachine -i INTERFACE --memory N [--offer] [--fill FILE] [--save FILE]\n"
+                             "             [-D N] [--timer MS] [--wait S] [--trace FILE]\n"
+                             "\n"
+                             "DESCRIPTION\n"
+                             "  The machine end as a process, to rehearse a shift without the machine. It\n"
+                             "  asks all hosts for a program (or, with --offer, offers a dump), then the\n"
+                             "  host that answers, and ends when it is started (or the dump is complete).\n"
+                             "\n"
+                             "OPTIONS\n"
+                             "  --memory N\n"
+                             "        Bytes of memory, up to 16777216.\n"
+                             "  --offer\n"
+                             "        Offer a dump and not ask for a program.\n"
+                             "  --fill FILE\n"
+                             "        What the memory holds at first, from address 0 on; the rest is 0.\n"
+                             "  --save FILE\n"
+                             "        Write the memory to FILE at the end, however it ends.\n"
+                             "  -D N, --dump-most N\n"
+                             "        Bytes of a dump reply at most, 1 to 1493. Default 1024.\n"
+                             "  --device N, --processor N\n"
+                             "        What it says it is, 0 to 255. Default 0.\n";
 
 static void help(void)
 {
@@ -226,8 +225,8 @@ static int options(int count, char **words, machine_end *m)
     static const struct option known[] = {LINE_OPTIONS, {"memory", required_argument, NULL, OPTION_MEMORY},
         {"offer", no_argument, NULL, OPTION_OFFER}, {"fill", required_argument, NULL, OPTION_FILL},
         {"save", required_argument, NULL, OPTION_SAVE}, {"dump-most", required_argument, NULL, 'D'},
-        {"device", required_argument, NULL, OPTION_DEVICE},
-        {"processor", required_argument, NULL, OPTION_PROCESSOR}, {NULL, 0, NULL, 0}};
+        {"device", required_argument, NULL, OPTION_DEVICE}, {"processor", required_argument, NULL, OPTION_PROCESSOR},
+        {NULL, 0, NULL, 0}};
     for (int c = 0; (c = getopt_long(count, words, "i:D:h", known, NULL)) != -1;) {
         int status = option(c, optarg, m);
         if (status != 0)

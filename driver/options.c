@@ -35,8 +35,7 @@ int option_number(const char *name, const char *text, uint64_t least, uint64_t m
     if (*end != '\0')
         return complain(STATUS_USAGE, "%s: '%s' is no number (write 512, 0x200 or 0o1000)", name, text);
     if (errno != 0 || value < least || value > most)
-        return complain(
-            STATUS_USAGE, "%s: %s is not between %" PRIu64 " and %" PRIu64, name, text, least, most);
+        return complain(STATUS_USAGE, "%s: %s is not between %" PRIu64 " and %" PRIu64, name, text, least, most);
     *number = value;
     return 0;
 }
@@ -56,8 +55,8 @@ int option_address(const char *name, const char *text, uint8_t *address)
     for (size_t i = 0; good && i < ADDRESS_LENGTH; i++) {
         const char *pair = text + 3 * i;
         const char digits[] = {pair[0], pair[1], '\0'};
-        good = isxdigit((unsigned char)pair[0]) && isxdigit((unsigned char)pair[1])
-            && (pair[2] == text[2] || i == ADDRESS_LENGTH - 1);
+        good = isxdigit((unsigned char)pair[0]) && isxdigit((unsigned char)pair[1]) &&
+               (pair[2] == text[2] || i == ADDRESS_LENGTH - 1);
         address[i] = (uint8_t)strtoul(digits, NULL, 16);
     }
     if (good)

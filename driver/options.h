@@ -11,11 +11,13 @@
 /* The numbers of the long options that all programs on the line have. */
 enum { OPTION_TIMER = 256, OPTION_WAIT, OPTION_DROP, OPTION_DOUBLE, OPTION_TRACE, OPTION_OWN };
 
-#define LINE_OPTIONS                                                                                                \
-    {"interface", required_argument, NULL, 'i'}, {"timer", required_argument, NULL, OPTION_TIMER},                  \
-        {"wait", required_argument, NULL, OPTION_WAIT}, {"drop", required_argument, NULL, OPTION_DROP},             \
-        {"double", required_argument, NULL, OPTION_DOUBLE}, {"trace", required_argument, NULL, OPTION_TRACE},       \
-        {"help", no_argument, NULL, 'h'}
+#define LINE_OPTIONS                                                                                                   \
+    {"interface", required_argument, NULL, 'i'}, {"timer", required_argument, NULL, OPTION_TIMER},                     \
+        {"wait", required_argument, NULL, OPTION_WAIT}, {"drop", required_argument, NULL, OPTION_DROP},                \
+        {"double", required_argument, NULL, OPTION_DOUBLE}, {"trace", required_argument, NULL, OPTION_TRACE},          \
+    {                                                                                                                  \
+        "help", no_argument, NULL, 'h'                                                                                 \
+    }
 
 typedef struct common_settings {
     line_settings line;

@@ -19,8 +19,8 @@ static void bar(progress *p, uint64_t done)
     for (uint64_t i = 0; i < WIDTH; i++)
         text[i] = i * p->total < done * WIDTH ? '#' : '.';
     text[WIDTH] = '\0';
-    printf("\r[%s] %3" PRIu64 " %%  %" PRIu64 " of %" PRIu64 " %s ", text, done * 100 / p->total, done, p->total,
-        p->unit);
+    printf(
+        "\r[%s] %3" PRIu64 " %%  %" PRIu64 " of %" PRIu64 " %s ", text, done * 100 / p->total, done, p->total, p->unit);
     words_bar();
 }
 

@@ -104,8 +104,7 @@ const char *verdict_words(uint8_t verdict)
 
 int verdict_status(uint8_t verdict)
 {
-    static const int statuses[] = {
-        STATUS_OTHER, STATUS_FINISHED, STATUS_REJECTED, STATUS_GIVEN_UP, STATUS_UNCONFIRMED};
+    static const int statuses[] = {STATUS_OTHER, STATUS_FINISHED, STATUS_REJECTED, STATUS_GIVEN_UP, STATUS_UNCONFIRMED};
     return PICK(statuses, verdict, STATUS_OTHER);
 }
 
@@ -172,8 +171,7 @@ void dump_words(FILE *out, const mop_dump *session, const mop_dump_settings *set
             session->filled, settings->length);
         break;
     default:
-        fprintf(out,
-            "%s: %" PRIu64 " of %" PRIu64 " bytes had come. The machine's memory is as it was.\n",
+        fprintf(out, "%s: %" PRIu64 " of %" PRIu64 " bytes had come. The machine's memory is as it was.\n",
             session->waiting ? "Not begun" : "Broken off", session->filled, settings->length);
     }
 }

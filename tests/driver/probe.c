@@ -47,13 +47,13 @@ static bool probe(const contents *raw)
     say(mop_write_volunteer(message, sizeof message));
     bool good = await(8, false, 5000);
     good = good && load(0, PROGRAM, raw->bytes, raw->length);
-    good = good && load(0, PROGRAM, raw->bytes, raw->length);      /* 0 once more */
+    good = good && load(0, PROGRAM, raw->bytes, raw->length); /* 0 once more */
     good = good && load(1, ELSEWHERE, filling, sizeof filling);
-    good = good && load(1, ELSEWHERE, filling, sizeof filling);    /* a repeat */
-    good = good && load(7, ELSEWHERE, filling, sizeof filling);    /* a wrong number */
-    good = good && load(2, ELSEWHERE, filling, sizeof filling);    /* the right one all the same */
+    good = good && load(1, ELSEWHERE, filling, sizeof filling); /* a repeat */
+    good = good && load(7, ELSEWHERE, filling, sizeof filling); /* a wrong number */
+    good = good && load(2, ELSEWHERE, filling, sizeof filling); /* the right one all the same */
     say(mop_write_load_transfer(3, PROGRAM, NULL, 0, PROGRAM, message, sizeof message)); /* no data */
-    return good && !await(10, false, 500);                         /* and no answer */
+    return good && !await(10, false, 500);                                               /* and no answer */
 }
 
 int main(int count, char **words)
