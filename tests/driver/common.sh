@@ -46,7 +46,7 @@ check() {
             passed=$((passed + 1))
             return
         fi
-        echo "failed: $name"
+        echo "not passed in this try: $name"
     done
     failed=$((failed + 1))
     echo "FAILED: $name"
