@@ -1,5 +1,6 @@
 // A rehearsal of a load: both ends over a line of 16 places each way (paper 01, 'Rehearsal program and its transcript').
-ghost use Prim.Native.Nat.{_≤_};
+ghost use mathlib.Core.Path.{_≡_};
+ghost use Prim.Native.Nat.{min};
 use image::Checked;
 use libc::STDIN_FILENO;
 use libc::STDOUT_FILENO;
@@ -25,7 +26,7 @@ struct Ends {
 }
 
 fn least(a: usize, b: usize) -> usize
-    ensures { λ r. ⌜ (r ≤ a) × (r ≤ b) ⌝ }
+    ensures { λ r. ⌜ r ≡ min a b ⌝ }
 {
     if a < b { a } else { b }
 }

@@ -3,6 +3,7 @@ use mathlib.Core.Path.{sym}
 use lib.ListN.{length, replicate, length-replicate}
 use lib.Seq.{length-take-le}
 use borrow.Author.Needs.{needs}
+use native.Mathlib.Omega.{arith}
 use Rattle.rehearse.proofs.play_in.Statement.{statement}
 use Rattle.rehearse.proofs.play_in.Tie as tie
 
@@ -16,7 +17,7 @@ array-borrow-prefix-memory : tie.Need-array-borrow-prefix-memory
 array-borrow-prefix-memory c = search needs
 
 slice-aggregate-play : tie.Need-slice-aggregate-play
-slice-aggregate-play c = sym (length-take-le (c .before .least .result) (replicate {A = ℕ} 4096 0) (room (c .before .least .result) (c .before .least .ensures .1)))
+slice-aggregate-play c = sym (length-take-le (c .before .least .result) (replicate {A = ℕ} 4096 0) (room (c .before .least .result) (omega (arith, c .before .least .ensures))))
 
 play-requires : tie.Need-play-requires
 play-requires c κs = search needs
