@@ -1,7 +1,7 @@
 -- The two laws of frames, each over all codes.
 --     read-written    reading what was written yields the fields
 --     written-read    writing the fields of an accepted frame yields that frame, byte for byte
-use Prim.Native.Nat.{ℕ, _+_, _-_, _^_, _<_, _≤_, min}
+use Prim.Native.Nat.{ℕ, suc, _+_, _-_, _^_, _<_, _≤_, min}
 use mathlib.Core.Path.{_≡_, refl, ap, sym, _∙_, subst}
 use mathlib.Core.Bool.{Bool, true, false, _&&_, cond}
 use mathlib.Core.List.{List, [], _∷_, _++_, append-assoc, append-nil}
@@ -9,19 +9,20 @@ use native.Mathlib.Omega.{arith}
 use native.Mathlib.Nat.{le-antisymm, le-trans}
 use native.Mathlib.Numerals.{add-one}
 use lib.ListN.{length, getD, take, drop, length-append, length-take, length-drop, take-append-drop, drop-of-length-le}
-use lib.Seq.{drop-cons, drop-drop, drop-at, take-at, getD-at, take-all, getD-take, getD-drop}
+use lib.Seq.{drop-cons, drop-drop, drop-at, take-at, getD-at, take-all, take-length, getD-take, getD-drop}
 use lib.Dec.{eqb, leb, ltb}
-use borrow.Author.Tests.{eq-eqb, ne-eqb, lt-ltb, le-ltb, eqb-true, ltb-false, leb-true}
+use borrow.Author.Tests.{eq-eqb, ne-eqb, lt-ltb, le-ltb, eqb-true, eqb-false, ltb-false, leb-true}
 use Rattle.octets.specs.Number.{number, low, Octets, octets-part, length-low, part-bound, number-low, low-number}
 use Rattle.octets.specs.declared.Written.{Written}
-use Rattle.octets.specs.Cases.{by-cases}
+use Rattle.octets.specs.Cases.{by-cases, both}
 use Rattle.octets.specs.Lay.{Output, written, refuse, laid, Came}
 use Rattle.entries.specs.declared.Place.{Place}
 use Rattle.entries.specs.declared.Place.the-variants.{Kind, Size, Value, Time, Transfer, Outside, Excess}
 use Rattle.entries.specs.Entries.{walk}
 use Rattle.entries.specs.Laws.{walk-ended, accepted}
 use Rattle.message.specs.Message.{Message, Row, rows, memoryLoadTransfer, memoryLoad, requestProgram, requestLoad, requestDump, requestDumpService, dumpData, dumpComplete, volunteer, parameters, loopData, loopedData, least, leastIn, exact, programListed, formListed, idLength}
-use Rattle.message.specs.Read.{Reading, refused, message, byte, word, lastWord, memoryLoadTransferFields, memoryLoadFields, withId, requestProgramFields, requestLoadFields, requestDumpFields, requestDumpServiceFields, dumpDataFields, ended, parametersFields, loopDataFields, loopedDataFields, most, fields, frame, read}
+use Rattle.message.specs.Read.{Reading, refused, message, row, byte, word, lastWord, memoryLoadTransferFields, memoryLoadFields, idFields, withId, requestProgramFields, requestLoadFields, requestDumpFields, requestDumpServiceFields, dumpDataFields, codeFields, refusedFields, ended, entriesFields, parametersFields, loopFields, byCode, longest, frame, fields, stated, said, read}
+use Rattle.message.specs.declared.Fields.{Fields}
 use Rattle.message.specs.Write.{layout, whole, idFits, listed, write, sent}
 
 -- the fields of several bytes fit their sizes
@@ -39,15 +40,19 @@ Sized (parameters number entries transfer) = transfer < 256 ^ 4
 Sized (loopData receipt bytes) = receipt < 256 ^ 2
 Sized (loopedData receipt bytes) = receipt < 256 ^ 2
 
--- a frame of a listed code whose length is right is read by its fields
-pub read-fields : (s : List ℕ) → 0 < least (byte s 0) → least (byte s 0) ≤ length s → length s ≤ most (byte s 0) → read s ≡ fields (byte s 0) s
-unfolding read
-read-fields s k l m =
-    rw (ne-eqb (length s) 0 (omega arith), lt-ltb 0 (least (byte s 0)) k, le-ltb (length s) (least (byte s 0)) l, le-ltb (most (byte s 0)) (length s) m)
+-- a frame of a listed code whose length is right is read by its code
+pub by-code : (s : List ℕ) → 0 < least (byte s 0) → least (byte s 0) ≤ length s → length s ≤ longest (byte s 0) → fields s ≡ byCode (byte s 0) s
+unfolding fields
+by-code s k l m =
+    rw (ne-eqb (length s) 0 (omega arith), lt-ltb 0 (least (byte s 0)) k, le-ltb (length s) (least (byte s 0)) l, le-ltb (longest (byte s 0)) (length s) m)
 
-both : (a b : Bool) → a && b ≡ true → (a ≡ true) × (b ≡ true)
-both true b e = (refl, e)
-both false b e = let z : _≡_ {A = ℕ} 0 1 = cc in absurd (omega arith)
+read-by : (s : List ℕ) → 0 < least (byte s 0) → least (byte s 0) ≤ length s → length s ≤ longest (byte s 0) → read s ≡ said s (byCode (byte s 0) s)
+unfolding read
+read-by s k l m = ap (said s) (by-code s k l m)
+
+-- a part that runs to the frame's end
+pub rest : (s : List ℕ) (at : ℕ) → take (length s - at) (drop at s) ≡ drop at s
+rest s at = take-all (length s - at) (drop at s) (rw length-drop (omega arith))
 
 -- the number of the last four bytes
 last-word : (front : List ℕ) (x : ℕ) → x < 256 ^ 4 → lastWord (front ++ low 4 x) ≡ x
@@ -55,16 +60,8 @@ last-word front x h =
     let n : length (front ++ low 4 x) - 4 ≡ length front = simp (length-append, length-low) (omega arith) in
     rw (n, drop-at front (low 4 x) (length front) refl, take-all 4 (low 4 x) (simp length-low (omega arith))) (number-low 4 x h)
 
-load-transfer-written : (n a : ℕ) (d : List ℕ) (t : ℕ) → a < 256 ^ 4 → t < 256 ^ 4
-    → memoryLoadTransferFields (layout (memoryLoadTransfer n a d t)) ≡ message (memoryLoadTransfer n a d t)
-unfolding layout low
-load-transfer-written n a d t ha ht =
-    let size : length (layout (memoryLoadTransfer n a d t)) - 10 ≡ length d = simp length-append (omega arith) in
-    let last : lastWord (layout (memoryLoadTransfer n a d t)) ≡ t = last-word (0 ∷ n ∷ (low 4 a ++ d)) t ht in
-    rw (last, size, take-at d (low 4 t) (length d) refl, number-low 4 a ha)
-
 with-id-written : (d f p form : ℕ) (id : List ℕ) (proc : ℕ) (info : List ℕ)
-    → withId (length id) (layout (requestProgram d f p form id proc info)) ≡ message (requestProgram d f p form id proc info)
+    → said (layout (requestProgram d f p form id proc info)) (withId (length id) (layout (requestProgram d f p form id proc info))) ≡ message (requestProgram d f p form id proc info)
 unfolding layout
 with-id-written d f p form id proc info =
     let n = length id in
@@ -74,10 +71,11 @@ with-id-written d f p form id proc info =
     let behind : drop (5 + n + 1) (front ++ (proc ∷ info)) ≡ info =
     sym (drop-drop 1 (5 + n) (front ++ (proc ∷ info))) ∙ ap (drop 1) (drop-at front (proc ∷ info) (5 + n) at) in
     let long : 6 + n ≤ length (front ++ (proc ∷ info)) = simp length-append (omega arith) in
-    rw (le-ltb (length (front ++ (proc ∷ info))) (6 + n) long, take-at id (proc ∷ info) n refl, getD-at front proc info 0 (5 + n) at, next, behind)
+    let size : length (front ++ (proc ∷ info)) - (5 + n + 1) ≡ length info = simp length-append (omega arith) in
+    rw (le-ltb (length (front ++ (proc ∷ info))) (6 + n) long, take-at id (proc ∷ info) n refl, getD-at front proc info 0 (5 + n) at, next, behind, size, take-length info)
 
 parameters-written : (n : ℕ) (e : List ℕ) (t : ℕ) → walk Kind e ≡ Kind → t < 256 ^ 4
-    → parametersFields (layout (parameters n e t)) ≡ message (parameters n e t)
+    → said (layout (parameters n e t)) (parametersFields (layout (parameters n e t))) ≡ message (parameters n e t)
 unfolding layout low
 parameters-written n e t k h =
     let size : length (layout (parameters n e t)) - 7 ≡ length e = simp length-append (omega arith) in
@@ -94,34 +92,98 @@ whole-kind (Transfer n) e = let z : _≡_ {A = ℕ} 0 1 = cc in absurd (omega ar
 whole-kind Outside e = let z : _≡_ {A = ℕ} 0 1 = cc in absurd (omega arith)
 whole-kind Excess e = let z : _≡_ {A = ℕ} 0 1 = cc in absurd (omega arith)
 
+-- The numbers of the frames that pass between the ends, and their variable parts.
+pub load-transfer-fields : (n a : ℕ) (d : List ℕ) (t : ℕ) → a < 256 ^ 4 → t < 256 ^ 4 → length (layout (memoryLoadTransfer n a d t)) ≤ 1500
+    → fields (layout (memoryLoadTransfer n a d t)) ≡ row 0 0 n 0 0 0 0 0 0 0 0 0 a t 0 6 (length d) 0 0
+unfolding layout byCode low least leastIn
+load-transfer-fields n a d t ha ht s =
+    let size : length (layout (memoryLoadTransfer n a d t)) - 10 ≡ length d = simp length-append (omega arith) in
+    let last : lastWord (layout (memoryLoadTransfer n a d t)) ≡ t = last-word (0 ∷ n ∷ (low 4 a ++ d)) t ht in
+    by-code (layout (memoryLoadTransfer n a d t)) (omega arith) (simp length-append (omega arith)) s ∙ (rw (last, size, number-low 4 a ha))
+
+pub load-transfer-part : (n a : ℕ) (d : List ℕ) (t : ℕ) → take (length d) (drop 6 (layout (memoryLoadTransfer n a d t))) ≡ d
+unfolding layout low
+load-transfer-part n a d t = take-at d (low 4 t) (length d) refl
+
+pub load-fields : (n a : ℕ) (d : List ℕ) → a < 256 ^ 4 → length (layout (memoryLoad n a d)) ≤ 1500
+    → fields (layout (memoryLoad n a d)) ≡ row 0 2 n 0 0 0 0 0 0 0 0 0 a 0 0 6 (length d) 0 0
+unfolding layout byCode low least leastIn
+load-fields n a d h s =
+    let size : length (layout (memoryLoad n a d)) - 6 ≡ length d = omega arith in
+    by-code (layout (memoryLoad n a d)) (omega arith) (omega arith) s ∙ (rw (number-low 4 a h, size))
+
+pub load-part : (n a : ℕ) (d : List ℕ) → take (length d) (drop 6 (layout (memoryLoad n a d))) ≡ d
+unfolding layout low
+load-part n a d = take-length d
+
+pub request-load-fields : (n e : ℕ) → fields (layout (requestLoad n e)) ≡ row 0 10 n e 0 0 0 0 0 0 0 0 0 0 0 0 0 0 0
+unfolding layout byCode least leastIn
+request-load-fields n e = by-code (layout (requestLoad n e)) (omega arith) (omega arith) (omega arith)
+
+pub request-dump-fields : (a n : ℕ) → a < 256 ^ 4 → n < 256 ^ 2 → fields (layout (requestDump a n)) ≡ row 0 4 0 0 0 0 0 0 0 0 n 0 a 0 0 0 0 0 0
+unfolding layout byCode low least leastIn
+request-dump-fields a n ha hn =
+    by-code (layout (requestDump a n)) (omega arith) (omega arith) (omega arith) ∙ (rw (number-low 4 a ha, number-low 2 n hn))
+
+pub request-dump-service-fields : (d f m k : ℕ) (info : List ℕ) → m < 256 ^ 4 → length (layout (requestDumpService d f m k info)) ≤ 1500
+    → fields (layout (requestDumpService d f m k info)) ≡ row 0 12 0 0 d f 0 0 0 k 0 0 0 0 m 8 (length info) 0 0
+unfolding layout byCode low least leastIn
+request-dump-service-fields d f m k info h s =
+    let size : length (layout (requestDumpService d f m k info)) - 8 ≡ length info = omega arith in
+    by-code (layout (requestDumpService d f m k info)) (omega arith) (omega arith) s ∙ (rw (number-low 4 m h, size))
+
+pub dump-data-fields : (a : ℕ) (d : List ℕ) → a < 256 ^ 4 → length (layout (dumpData a d)) ≤ 1500
+    → fields (layout (dumpData a d)) ≡ row 0 14 0 0 0 0 0 0 0 0 0 0 a 0 0 5 (length d) 0 0
+unfolding layout byCode low least leastIn
+dump-data-fields a d h s =
+    let size : length (layout (dumpData a d)) - 5 ≡ length d = omega arith in
+    by-code (layout (dumpData a d)) (omega arith) (omega arith) s ∙ (rw (number-low 4 a h, size))
+
+pub dump-data-part : (a : ℕ) (d : List ℕ) → take (length d) (drop 5 (layout (dumpData a d))) ≡ d
+unfolding layout low
+dump-data-part a d = take-length d
+
+pub dump-complete-fields : fields (layout dumpComplete) ≡ codeFields 1
+unfolding layout byCode least leastIn
+dump-complete-fields = by-code (layout dumpComplete) (omega arith) (omega arith) (omega arith)
+
+-- the numbers of a program request for an operating system with no software id, as the machine sends it
+pub request-program-fields : (d p : ℕ) → fields (layout (requestProgram d 1 2 255 [] p [])) ≡ row 0 8 0 0 d 1 2 255 p 0 0 0 0 0 0 6 0 5 0
+unfolding layout byCode least leastIn
+request-program-fields d p = by-code (layout (requestProgram d 1 2 255 [] p [])) (omega arith) (omega arith) (omega arith)
+
+-- a frame whose numbers are known is read as the message that they state
+read-as : (s : List ℕ) (f : Fields) → fields s ≡ f → read s ≡ said s f
+unfolding read
+read-as s f e = ap (said s) e
+
 pub read-written : (m : Message) → Sized m → listed m ≡ true → length (layout m) ≤ 1500 → read (layout m) ≡ message m
-unfolding layout fields low least leastIn
+unfolding layout byCode low least leastIn
 read-written (memoryLoadTransfer n a d t) h l s =
-    read-fields (layout (memoryLoadTransfer n a d t)) (omega arith) (simp length-append (omega arith)) s ∙ load-transfer-written n a d t (h .0) (h .1)
-read-written (memoryLoad n a d) h l s =
-    read-fields (layout (memoryLoad n a d)) (omega arith) (omega arith) s ∙ (rw (number-low 4 a h))
+    read-as (layout (memoryLoadTransfer n a d t)) _ (load-transfer-fields n a d t (h .0) (h .1) s) ∙ (rw (load-transfer-part n a d t))
+read-written (memoryLoad n a d) h l s = read-as (layout (memoryLoad n a d)) _ (load-fields n a d h s) ∙ (rw (load-part n a d))
 read-written (requestProgram d f p form id proc info) h l s =
     let c = both (programListed p) (idFits form (length id)) l in
     let e = both (formListed form) (eqb (length id) (idLength form)) (c .1) in
     let n : idLength form ≡ length id = sym (eqb-true (length id) (idLength form) (e .1)) in
-    read-fields (layout (requestProgram d f p form id proc info)) (omega arith) (simp length-append (omega arith)) s
+    read-by (layout (requestProgram d f p form id proc info)) (omega arith) (simp length-append (omega arith)) s
     ∙ (rw (c .0, e .0, n) (with-id-written d f p form id proc info))
-read-written (requestLoad n e) h l s = read-fields (layout (requestLoad n e)) (omega arith) (omega arith) (omega arith)
-read-written (requestDump a n) h l s =
-    read-fields (layout (requestDump a n)) (omega arith) (omega arith) (omega arith) ∙ (rw (number-low 4 a (h .0), number-low 2 n (h .1)))
+read-written (requestLoad n e) h l s = read-as (layout (requestLoad n e)) _ (request-load-fields n e)
+read-written (requestDump a n) h l s = read-as (layout (requestDump a n)) _ (request-dump-fields a n (h .0) (h .1))
 read-written (requestDumpService d f m k info) h l s =
-    read-fields (layout (requestDumpService d f m k info)) (omega arith) (omega arith) s ∙ (rw (number-low 4 m h))
-read-written (dumpData a d) h l s =
-    read-fields (layout (dumpData a d)) (omega arith) (omega arith) s ∙ (rw (number-low 4 a h))
-read-written dumpComplete h l s = read-fields (layout dumpComplete) (omega arith) (omega arith) (omega arith)
-read-written volunteer h l s = read-fields (layout volunteer) (omega arith) (omega arith) (omega arith)
+    read-as (layout (requestDumpService d f m k info)) _ (request-dump-service-fields d f m k info h s) ∙ (rw (take-length info))
+read-written (dumpData a d) h l s = read-as (layout (dumpData a d)) _ (dump-data-fields a d h s) ∙ (rw (dump-data-part a d))
+read-written dumpComplete h l s = read-as (layout dumpComplete) _ dump-complete-fields
+read-written volunteer h l s = read-by (layout volunteer) (omega arith) (omega arith) (omega arith)
 read-written (parameters n e t) h l s =
-    read-fields (layout (parameters n e t)) (omega arith) (simp length-append (omega arith)) s
+    read-by (layout (parameters n e t)) (omega arith) (simp length-append (omega arith)) s
     ∙ parameters-written n e t (whole-kind (walk Kind e) l) h
 read-written (loopData r d) h l s =
-    read-fields (layout (loopData r d)) (omega arith) (omega arith) s ∙ (rw (number-low 2 r h))
+    let size : length (layout (loopData r d)) - 3 ≡ length d = omega arith in
+    read-by (layout (loopData r d)) (omega arith) (omega arith) s ∙ (rw (number-low 2 r h, size, take-length d))
 read-written (loopedData r d) h l s =
-    read-fields (layout (loopedData r d)) (omega arith) (omega arith) s ∙ (rw (number-low 2 r h))
+    let size : length (layout (loopedData r d)) - 3 ≡ length d = omega arith in
+    read-by (layout (loopedData r d)) (omega arith) (omega arith) s ∙ (rw (number-low 2 r h, size, take-length d))
 
 -- pieces of a frame put together again
 on-byte : (s : List ℕ) (j : ℕ) → j < length s → byte s j ∷ drop (j + 1) s ≡ drop j s
@@ -145,130 +207,180 @@ abbrev pub Back : List ℕ → Reading → Type 0
 Back s (refused n) = Unit {0}
 Back s (message m) = (layout m ≡ s) × (listed m ≡ true) × Sized m
 
-module _ (s : List ℕ) (o : Octets s) where
-  bound : (n j : ℕ) → word n s j < 256 ^ n
-  bound n j = part-bound n j s o
+-- What holds of the numbers of a frame: the variable part lies within, and the message gives the frame back.
+Sound : List ℕ → Fields → Type 0
+Sound s f = (f .«data_at» + f .«data_length» ≤ length s) × (Octets s → Back s (said s f))
+
+accepted-end : (p : Place) → ended p ≡ 0 → p ≡ Transfer 0
+accepted-end Kind e = absurd (omega arith)
+accepted-end (Size kind) e = absurd (omega arith)
+accepted-end (Value n) e = absurd (omega arith)
+accepted-end (Time k before) e = absurd (omega arith)
+accepted-end (Transfer n) e = ap Transfer (by-cases (λ (x : ℕ). x ≡ 0 → n ≡ 0) (eqb n 0) (λ b _. eqb-true n 0 b) (λ b x. absurd (omega arith)) e)
+accepted-end Outside e = absurd (omega arith)
+accepted-end Excess e = absurd (omega arith)
+
+module _ (s : List ℕ) where
+  bound : Octets s → (n j : ℕ) → word n s j < 256 ^ n
+  bound o n j = part-bound n j s o
 
   -- the first byte before the rest
-  first : (code : ℕ) → byte s 0 ≡ code → 0 < length s → code ∷ drop 1 s ≡ s
-  first code e h = rw (← e) (on-byte s 0 h)
+  headed : (code : ℕ) → byte s 0 ≡ code → 0 < length s → code ∷ drop 1 s ≡ s
+  headed code e h = rw (← e) (on-byte s 0 h)
 
-  back-memoryLoadTransfer : byte s 0 ≡ 0 → 10 ≤ length s → Back s (memoryLoadTransferFields s)
-  unfolding layout
-  back-memoryLoadTransfer e h =
+  sound-refused : (n : ℕ) → Sound s (refusedFields (suc n))
+  unfolding Sound
+  sound-refused n = (omega arith, λ _. rw (ne-eqb (suc n) 0 (omega arith)) tt)
+
+  sound-memoryLoadTransfer : byte s 0 ≡ 0 → 10 ≤ length s → Sound s (memoryLoadTransferFields s)
+  unfolding layout Sound
+  sound-memoryLoadTransfer e h =
       let front : 6 + (length s - 10) ≡ length s - 4 = omega arith in (
-        (rw (last-on-word 4 s (length s - 4) o (omega arith), ← front, on-part s 6 (length s - 10), on-word 4 s 2 o (omega arith), on-byte s 1 (omega arith)) (first 0 e (omega arith))),
-        refl,
-        (bound 4 2, bound 4 (length s - 4)),
+        omega arith,
+        λ o. (
+          (rw (last-on-word 4 s (length s - 4) o (omega arith), ← front, on-part s 6 (length s - 10), on-word 4 s 2 o (omega arith), on-byte s 1 (omega arith)) (headed 0 e (omega arith))),
+          refl,
+          (bound o 4 2, bound o 4 (length s - 4)),
+        ),
       )
 
-  back-memoryLoad : byte s 0 ≡ 2 → 6 ≤ length s → Back s (memoryLoadFields s)
-  unfolding layout
-  back-memoryLoad e h = ((rw (on-word 4 s 2 o (omega arith), on-byte s 1 (omega arith)) (first 2 e (omega arith))), refl, bound 4 2)
+  sound-memoryLoad : byte s 0 ≡ 2 → 6 ≤ length s → Sound s (memoryLoadFields s)
+  unfolding layout Sound
+  sound-memoryLoad e h =
+      (omega arith, λ o. ((rw (rest s 6, on-word 4 s 2 o (omega arith), on-byte s 1 (omega arith)) (headed 2 e (omega arith))), refl, bound o 4 2))
 
-  back-withId : (n : ℕ) → byte s 0 ≡ 8 → 6 ≤ length s → programListed (byte s 3) ≡ true → formListed (byte s 4) ≡ true → n ≡ idLength (byte s 4)
-      → Back s (withId n s)
-  unfolding layout
-  back-withId n e h p f q =
-      by-cases (Back s) (ltb (length s) (6 + n)) (λ _. tt) (λ b.
-      let l : 6 + n ≤ length s = ltb-false (length s) (6 + n) b in
+  sound-id : (n : ℕ) → byte s 0 ≡ 8 → 6 + n ≤ length s → programListed (byte s 3) ≡ true → formListed (byte s 4) ≡ true → n ≡ idLength (byte s 4)
+      → Sound s (idFields n s)
+  unfolding layout Sound
+  sound-id n e l p f q =
       let next : 6 + n ≡ 5 + n + 1 = omega arith in
       let size : length (take n (drop 5 s)) ≡ n = simp (length-take, length-drop) (omega arith) in (
-        (rw (next, on-byte s (5 + n) (omega arith), on-part s 5 n, on-byte s 4 (omega arith), on-byte s 3 (omega arith), on-byte s 2 (omega arith), on-byte s 1 (omega arith)) (first 8 e (omega arith))),
-        rw (p, f, size) (eq-eqb n (idLength (byte s 4)) q),
-        tt,
-      ))
+        omega arith,
+        λ o. (
+          (rw (rest s (6 + n), next, on-byte s (5 + n) (omega arith), on-part s 5 n, on-byte s 4 (omega arith), on-byte s 3 (omega arith), on-byte s 2 (omega arith), on-byte s 1 (omega arith)) (headed 8 e (omega arith))),
+          rw (p, f, size) (eq-eqb n (idLength (byte s 4)) q),
+          tt,
+        ),
+      )
 
-  back-requestProgram : byte s 0 ≡ 8 → 6 ≤ length s → Back s (requestProgramFields s)
-  back-requestProgram e h =
-      by-cases (Back s) (programListed (byte s 3)) (λ p. by-cases (Back s) (formListed (byte s 4)) (λ f. back-withId (idLength (byte s 4)) e h p f refl) (λ _. tt)) (λ _. tt)
+  sound-requestProgram : byte s 0 ≡ 8 → Sound s (requestProgramFields s)
+  sound-requestProgram e =
+      let n = idLength (byte s 4) in
+      by-cases (Sound s) (programListed (byte s 3)) (λ p.
+      by-cases (Sound s) (formListed (byte s 4)) (λ f.
+      by-cases (Sound s) (ltb (length s) (6 + n)) (λ _. sound-refused 0) (λ l. sound-id n e (ltb-false (length s) (6 + n) l) p f refl))
+      (λ _. sound-refused 3)) (λ _. sound-refused 3)
 
-  back-requestLoad : byte s 0 ≡ 10 → length s ≡ 3 → Back s (requestLoadFields s)
-  unfolding layout
-  back-requestLoad e h =
-      ((rw (← drop-of-length-le s {i = 3} (omega arith), on-byte s 2 (omega arith), on-byte s 1 (omega arith)) (first 10 e (omega arith))), refl, tt)
+  sound-requestLoad : byte s 0 ≡ 10 → length s ≡ 3 → Sound s (requestLoadFields s)
+  unfolding layout Sound
+  sound-requestLoad e h =
+      (omega arith, λ o. ((rw (← drop-of-length-le s {i = 3} (omega arith), on-byte s 2 (omega arith), on-byte s 1 (omega arith)) (headed 10 e (omega arith))), refl, tt))
 
-  back-requestDump : byte s 0 ≡ 4 → length s ≡ 7 → Back s (requestDumpFields s)
-  unfolding layout
-  back-requestDump e h =
-      ((rw (last-on-word 2 s 5 o (omega arith), on-word 4 s 1 o (omega arith)) (first 4 e (omega arith))), refl, (bound 4 1, bound 2 5))
+  sound-requestDump : byte s 0 ≡ 4 → length s ≡ 7 → Sound s (requestDumpFields s)
+  unfolding layout Sound
+  sound-requestDump e h =
+      (omega arith, λ o. ((rw (last-on-word 2 s 5 o (omega arith), on-word 4 s 1 o (omega arith)) (headed 4 e (omega arith))), refl, (bound o 4 1, bound o 2 5)))
 
-  back-requestDumpService : byte s 0 ≡ 12 → 8 ≤ length s → Back s (requestDumpServiceFields s)
-  unfolding layout
-  back-requestDumpService e h = (
-    (rw (on-byte s 7 (omega arith), on-word 4 s 3 o (omega arith), on-byte s 2 (omega arith), on-byte s 1 (omega arith)) (first 12 e (omega arith))),
-    refl,
-    bound 4 3,
+  sound-requestDumpService : byte s 0 ≡ 12 → 8 ≤ length s → Sound s (requestDumpServiceFields s)
+  unfolding layout Sound
+  sound-requestDumpService e h = (
+    omega arith,
+    λ o. (
+      (rw (rest s 8, on-byte s 7 (omega arith), on-word 4 s 3 o (omega arith), on-byte s 2 (omega arith), on-byte s 1 (omega arith)) (headed 12 e (omega arith))),
+      refl,
+      bound o 4 3,
+    ),
   )
 
-  back-dumpData : byte s 0 ≡ 14 → 5 ≤ length s → Back s (dumpDataFields s)
-  unfolding layout
-  back-dumpData e h = ((rw (on-word 4 s 1 o (omega arith)) (first 14 e (omega arith))), refl, bound 4 1)
+  sound-dumpData : byte s 0 ≡ 14 → 5 ≤ length s → Sound s (dumpDataFields s)
+  unfolding layout Sound
+  sound-dumpData e h = (omega arith, λ o. ((rw (rest s 5, on-word 4 s 1 o (omega arith)) (headed 14 e (omega arith))), refl, bound o 4 1))
 
-  back-single : (m : Message) (code : ℕ) → layout m ≡ code ∷ [] → listed m ≡ true → Sized m → byte s 0 ≡ code → length s ≡ 1 → Back s (message m)
-  back-single m code w l z e h = (w ∙ (rw (← drop-of-length-le s {i = 1} (omega arith)) (first code e (omega arith))), l, z)
+  alone : (code : ℕ) → byte s 0 ≡ code → length s ≡ 1 → code ∷ [] ≡ s
+  alone code e h = rw (← drop-of-length-le s {i = 1} (omega arith)) (headed code e (omega arith))
 
-  back-loopData : byte s 0 ≡ 24 → 3 ≤ length s → Back s (loopDataFields s)
-  unfolding layout
-  back-loopData e h = ((rw (on-word 2 s 1 o (omega arith)) (first 24 e (omega arith))), refl, bound 2 1)
+  sound-dumpComplete : byte s 0 ≡ 1 → length s ≡ 1 → Sound s (codeFields 1)
+  unfolding layout Sound
+  sound-dumpComplete e h = (omega arith, λ _. (alone 1 e h, refl, tt))
 
-  back-loopedData : byte s 0 ≡ 26 → 3 ≤ length s → Back s (loopedDataFields s)
-  unfolding layout
-  back-loopedData e h = ((rw (on-word 2 s 1 o (omega arith)) (first 26 e (omega arith))), refl, bound 2 1)
+  sound-volunteer : byte s 0 ≡ 3 → length s ≡ 1 → Sound s (codeFields 3)
+  unfolding layout Sound
+  sound-volunteer e h = (omega arith, λ _. (alone 3 e h, refl, tt))
 
-  accepted-end : (p : Place) → ended p ≡ 0 → p ≡ Transfer 0
-  accepted-end Kind e = absurd (omega arith)
-  accepted-end (Size kind) e = absurd (omega arith)
-  accepted-end (Value n) e = absurd (omega arith)
-  accepted-end (Time k before) e = absurd (omega arith)
-  accepted-end (Transfer n) e = ap Transfer (by-cases (λ (x : ℕ). x ≡ 0 → n ≡ 0) (eqb n 0) (λ b _. eqb-true n 0 b) (λ b x. absurd (omega arith)) e)
-  accepted-end Outside e = absurd (omega arith)
-  accepted-end Excess e = absurd (omega arith)
-
-  back-parameters : byte s 0 ≡ 20 → 7 ≤ length s → Back s (parametersFields s)
-  unfolding layout
-  back-parameters e h =
-      by-cases (Back s) (eqb (ended (walk Kind (drop 2 s))) 0) (λ b.
-      let a = accepted (drop 2 s) (accepted-end (walk Kind (drop 2 s)) (eqb-true (ended (walk Kind (drop 2 s))) 0 b)) in
+  sound-entries : byte s 0 ≡ 20 → 7 ≤ length s → ended (walk Kind (drop 2 s)) ≡ 0 → Sound s (entriesFields s)
+  unfolding layout Sound
+  sound-entries e h z =
+      let a = accepted (drop 2 s) (accepted-end (walk Kind (drop 2 s)) z) in
       let size : length (drop 2 s) - 5 ≡ length s - 7 = rw length-drop (omega arith) in
       let last : 2 + (length (drop 2 s) - 4) ≡ length s - 4 = rw length-drop (omega arith) in
       let behind : drop (length (drop 2 s) - 4) (drop 2 s) ≡ drop (length s - 4) s = rw (drop-drop, last) in
       let entries : walk Kind (take (length s - 7) (drop 2 s)) ≡ Kind = rw (← size) (a .entries) in
       let joined : take (length s - 7) (drop 2 s) ++ (0 ∷ drop (length s - 4) s) ≡ drop 2 s = sym (rw (size, behind) at (a .whole)) in (
-        (rw (last-on-word 4 s (length s - 4) o (omega arith), joined, on-byte s 1 (omega arith)) (first 20 e (omega arith))),
-        rw entries,
-        bound 4 (length s - 4),
-      )) (λ _. tt)
+        omega arith,
+        λ o. (
+          (rw (last-on-word 4 s (length s - 4) o (omega arith), joined, on-byte s 1 (omega arith)) (headed 20 e (omega arith))),
+          rw entries,
+          bound o 4 (length s - 4),
+        ),
+      )
 
-  -- the fields of a frame whose length is right for its code
-  back-fields : (code : ℕ) → byte s 0 ≡ code → least code ≤ length s → length s ≤ most code → Back s (fields code s)
-  unfolding fields least leastIn layout
-  back-fields code e l m =
-      by-cases (Back s) (eqb code 0) (λ b. let z = eqb-true code 0 b in back-memoryLoadTransfer (e ∙ z) (rw z at l)) (λ _.
-      by-cases (Back s) (eqb code 2) (λ b. let z = eqb-true code 2 b in back-memoryLoad (e ∙ z) (rw z at l)) (λ _.
-      by-cases (Back s) (eqb code 8) (λ b. let z = eqb-true code 8 b in back-requestProgram (e ∙ z) (rw z at l)) (λ _.
-      by-cases (Back s) (eqb code 10) (λ b. let z = eqb-true code 10 b in back-requestLoad (e ∙ z) (le-antisymm (rw z at m) (rw z at l))) (λ _.
-      by-cases (Back s) (eqb code 4) (λ b. let z = eqb-true code 4 b in back-requestDump (e ∙ z) (le-antisymm (rw z at m) (rw z at l))) (λ _.
-      by-cases (Back s) (eqb code 12) (λ b. let z = eqb-true code 12 b in back-requestDumpService (e ∙ z) (rw z at l)) (λ _.
-      by-cases (Back s) (eqb code 14) (λ b. let z = eqb-true code 14 b in back-dumpData (e ∙ z) (rw z at l)) (λ _.
-      by-cases (Back s) (eqb code 1) (λ b. let z = eqb-true code 1 b in back-single dumpComplete 1 refl refl tt (e ∙ z) (le-antisymm (rw z at m) (rw z at l))) (λ _.
-      by-cases (Back s) (eqb code 3) (λ b. let z = eqb-true code 3 b in back-single volunteer 3 refl refl tt (e ∙ z) (le-antisymm (rw z at m) (rw z at l))) (λ _.
-      by-cases (Back s) (eqb code 20) (λ b. let z = eqb-true code 20 b in back-parameters (e ∙ z) (rw z at l)) (λ _.
-      by-cases (Back s) (eqb code 24) (λ b. let z = eqb-true code 24 b in back-loopData (e ∙ z) (rw z at l)) (λ _.
-      by-cases (Back s) (eqb code 26) (λ b. let z = eqb-true code 26 b in back-loopedData (e ∙ z) (rw z at l)) (λ _. tt))))))))))))
+  sound-walked : (n : ℕ) → ended (walk Kind (drop 2 s)) ≡ n → (n ≡ 0 → ⊥) → Sound s (refusedFields n)
+  unfolding Sound
+  sound-walked n e ne = (omega arith, λ _. rw (ne-eqb n 0 ne) tt)
 
-  back : Back s (read s)
-  unfolding read
-  back =
-      let code = byte s 0 in
-      by-cases (Back s) (eqb (length s) 0) (λ _. tt) (λ _.
-      by-cases (Back s) (ltb 0 (least code)) (λ _.
-      by-cases (Back s) (ltb (length s) (least code)) (λ _. tt) (λ l.
-      by-cases (Back s) (ltb (most code) (length s)) (λ _. tt) (λ m.
-      back-fields code refl (ltb-false (length s) (least code) l) (ltb-false (most code) (length s) m)))) (λ _. tt))
+  sound-parameters : byte s 0 ≡ 20 → 7 ≤ length s → Sound s (parametersFields s)
+  sound-parameters e h =
+      let n = ended (walk Kind (drop 2 s)) in
+      by-cases (Sound s) (eqb n 0) (λ b. sound-entries e h (eqb-true n 0 b)) (λ b. sound-walked n refl (eqb-false n 0 b))
 
-  pub written-read : (m : Message) → read s ≡ message m → (layout m ≡ s) × (listed m ≡ true) × Sized m
-  written-read m e = subst (Back s) e back
+  sound-loopData : byte s 0 ≡ 24 → 3 ≤ length s → Sound s (loopFields 24 s)
+  unfolding layout Sound
+  sound-loopData e h = (omega arith, λ o. ((rw (rest s 3, on-word 2 s 1 o (omega arith)) (headed 24 e (omega arith))), refl, bound o 2 1))
+
+  sound-loopedData : byte s 0 ≡ 26 → 3 ≤ length s → Sound s (loopFields 26 s)
+  unfolding layout Sound
+  sound-loopedData e h = (omega arith, λ o. ((rw (rest s 3, on-word 2 s 1 o (omega arith)) (headed 26 e (omega arith))), refl, bound o 2 1))
+
+  -- a frame whose length is right for its code
+  sound-by-code : (code : ℕ) → byte s 0 ≡ code → least code ≤ length s → length s ≤ longest code → Sound s (byCode code s)
+  unfolding byCode least leastIn
+  sound-by-code code e l m =
+      by-cases (Sound s) (eqb code 0) (λ b. let z = eqb-true code 0 b in sound-memoryLoadTransfer (e ∙ z) (rw z at l)) (λ _.
+      by-cases (Sound s) (eqb code 2) (λ b. let z = eqb-true code 2 b in sound-memoryLoad (e ∙ z) (rw z at l)) (λ _.
+      by-cases (Sound s) (eqb code 8) (λ b. sound-requestProgram (e ∙ eqb-true code 8 b)) (λ _.
+      by-cases (Sound s) (eqb code 10) (λ b. let z = eqb-true code 10 b in sound-requestLoad (e ∙ z) (le-antisymm (rw z at m) (rw z at l))) (λ _.
+      by-cases (Sound s) (eqb code 4) (λ b. let z = eqb-true code 4 b in sound-requestDump (e ∙ z) (le-antisymm (rw z at m) (rw z at l))) (λ _.
+      by-cases (Sound s) (eqb code 12) (λ b. let z = eqb-true code 12 b in sound-requestDumpService (e ∙ z) (rw z at l)) (λ _.
+      by-cases (Sound s) (eqb code 14) (λ b. let z = eqb-true code 14 b in sound-dumpData (e ∙ z) (rw z at l)) (λ _.
+      by-cases (Sound s) (eqb code 1) (λ b. let z = eqb-true code 1 b in sound-dumpComplete (e ∙ z) (le-antisymm (rw z at m) (rw z at l))) (λ _.
+      by-cases (Sound s) (eqb code 3) (λ b. let z = eqb-true code 3 b in sound-volunteer (e ∙ z) (le-antisymm (rw z at m) (rw z at l))) (λ _.
+      by-cases (Sound s) (eqb code 20) (λ b. let z = eqb-true code 20 b in sound-parameters (e ∙ z) (rw z at l)) (λ _.
+      by-cases (Sound s) (eqb code 24) (λ b. let z = eqb-true code 24 b in sound-loopData (e ∙ z) (rw z at l)) (λ _.
+      by-cases (Sound s) (eqb code 26) (λ b. let z = eqb-true code 26 b in sound-loopedData (e ∙ z) (rw z at l)) (λ _. sound-refused 2))))))))))))
+
+-- what holds of a frame that passes the tests of code and length, and of each of their refusals, holds of every frame's numbers
+by-tests : (s : List ℕ) (P : Fields → Type 0) → ((n : ℕ) → P (refusedFields (suc n)))
+    → (least (byte s 0) ≤ length s → length s ≤ longest (byte s 0) → P (byCode (byte s 0) s)) → P (fields s)
+unfolding fields
+by-tests s P r f =
+    let code = byte s 0 in
+    by-cases P (eqb (length s) 0) (λ _. r 0) (λ _.
+    by-cases P (ltb 0 (least code)) (λ _.
+    by-cases P (ltb (length s) (least code)) (λ _. r 0) (λ l.
+    by-cases P (ltb (longest code) (length s)) (λ _. r 1) (λ m.
+    f (ltb-false (length s) (least code) l) (ltb-false (longest code) (length s) m)))) (λ _. r 2))
+
+sound : (s : List ℕ) → Sound s (fields s)
+sound s = by-tests s (Sound s) (sound-refused s) (sound-by-code s (byte s 0) refl)
+
+-- the variable part lies within the frame
+pub fields-inside : (s : List ℕ) → fields s .«data_at» + fields s .«data_length» ≤ length s
+unfolding Sound
+fields-inside s = sound s .0
+
+pub written-read : (s : List ℕ) → Octets s → (m : Message) → read s ≡ message m → (layout m ≡ s) × (listed m ≡ true) × Sized m
+unfolding read Sound
+written-read s o m e = subst (Back s) e (sound s .1 o)
 
 -- the least lengths are at most n
 atMost : ℕ → List Row → Bool
@@ -282,30 +394,21 @@ least-small n (row ∷ rest) code t =
     let c = both (leb (row .length) n) (atMost n rest) t in
     by-cases (λ (x : ℕ). x ≤ n) (eqb code (row .code)) (λ _. leb-true (row .length) n (c .0)) (λ _. least-small n rest code (c .1))
 
-most-small : (code : ℕ) → most code ≤ 1500
+longest-small : (code : ℕ) → longest code ≤ 1500
 unfolding least atMost
-most-small code = by-cases (λ (x : ℕ). x ≤ 1500) (exact code) (λ _. least-small 1500 rows code refl) (λ _. omega arith)
-
-Short : List ℕ → Reading → Type 0
-Short s (refused n) = Unit {0}
-Short s (message m) = length s ≤ 1500
-
-short : (s : List ℕ) → length s ≤ 1500 → (r : Reading) → Short s r
-unfolding Short
-short s h (refused n) = tt
-short s h (message m) = h
+longest-small code = by-cases (λ (x : ℕ). x ≤ 1500) (exact code) (λ _. least-small 1500 rows code refl) (λ _. omega arith)
 
 -- an accepted frame has at most 1,500 bytes
-pub read-short : (s : List ℕ) (m : Message) → read s ≡ message m → length s ≤ 1500
-unfolding read Short
-read-short s m e =
-    let code = byte s 0 in
-    subst (Short s) e
-    (by-cases (Short s) (eqb (length s) 0) (λ _. tt) (λ _.
-    by-cases (Short s) (ltb 0 (least code)) (λ _.
-    by-cases (Short s) (ltb (length s) (least code)) (λ _. tt) (λ _.
-    by-cases (Short s) (ltb (most code) (length s)) (λ _. tt) (λ m.
-    short s (le-trans (ltb-false (most code) (length s) m) (most-small code)) (fields code s)))) (λ _. tt)))
+pub fields-short : (s : List ℕ) → fields s .refusal ≡ 0 → length s ≤ 1500
+fields-short s =
+    by-tests s (λ (f : Fields). f .refusal ≡ 0 → length s ≤ 1500) (λ n e. absurd (omega arith)) (λ _ m _. le-trans m (longest-small (byte s 0)))
+
+-- what is read as a message is not refused, and its numbers state the message
+pub accepted-fields : (s : List ℕ) (m : Message) → read s ≡ message m → (fields s .refusal ≡ 0) × (stated s (fields s) ≡ m)
+unfolding read
+accepted-fields s m =
+    let f = fields s in
+    by-cases (λ (r : Reading). r ≡ message m → (f .refusal ≡ 0) × (stated s f ≡ m)) (eqb (f .refusal) 0) (λ b e. (eqb-true (f .refusal) 0 b, cc)) (λ b e. let z : _≡_ {A = ℕ} 0 1 = cc in absurd (omega arith))
 
 -- The two laws, of a writer's answer and buffer.
 
@@ -333,50 +436,13 @@ pub write-back : (s : List ℕ) (m : Message) → Octets s → read s ≡ messag
 unfolding write
 write-back s m o e out h =
     let b = written-read s o m e in
-    rw (b .1, b .0, le-ltb 1500 (length s) (read-short s m e), le-ltb (length out) (length s) h) (refl, refl)
+    rw (b .1, b .0, le-ltb 1500 (length s) (fields-short s (accepted-fields s m e .0)), le-ltb (length out) (length s) h) (refl, refl)
 
 -- a listed message's frame, laid into a buffer, is what its writer gives
 pub wrote : (m : Message) (out f : List ℕ) {answer : Written} {buffer : List ℕ} → Came (laid f out) answer buffer → f ≡ layout m → listed m ≡ true
     → Came (write m out) answer buffer
 unfolding write
 wrote m out f c e l = rw (l, ← e) c
-
--- a refusal has a number of its own, never 0
-Numbered : Reading → Type 0
-Numbered (refused n) = eqb n 0 ≡ false
-Numbered (message m) = Unit {0}
-
-numbered-fields : (code : ℕ) (s : List ℕ) → Numbered (fields code s)
-unfolding fields Numbered
-numbered-fields code s =
-    by-cases Numbered (eqb code 0) (λ _. tt) (λ _.
-    by-cases Numbered (eqb code 2) (λ _. tt) (λ _.
-    by-cases Numbered (eqb code 8) (λ _. program) (λ _.
-    by-cases Numbered (eqb code 10) (λ _. tt) (λ _.
-    by-cases Numbered (eqb code 4) (λ _. tt) (λ _.
-    by-cases Numbered (eqb code 12) (λ _. tt) (λ _.
-    by-cases Numbered (eqb code 14) (λ _. tt) (λ _.
-    by-cases Numbered (eqb code 1) (λ _. tt) (λ _.
-    by-cases Numbered (eqb code 3) (λ _. tt) (λ _.
-    by-cases Numbered (eqb code 20) (λ _. by-cases Numbered (eqb (ended (walk Kind (drop 2 s))) 0) (λ _. tt) (λ e. e)) (λ _.
-    by-cases Numbered (eqb code 24) (λ _. tt) (λ _.
-    by-cases Numbered (eqb code 26) (λ _. tt) (λ _. refl))))))))))))
-  where
-    program : Numbered (requestProgramFields s)
-    program =
-        by-cases Numbered (programListed (byte s 3)) (λ _.
-        by-cases Numbered (formListed (byte s 4)) (λ _.
-        by-cases Numbered (ltb (length s) (6 + idLength (byte s 4))) (λ _. refl) (λ _. tt)) (λ _. refl)) (λ _. refl)
-
-pub refused-some : (s : List ℕ) (n : ℕ) → read s ≡ refused n → eqb n 0 ≡ false
-unfolding read Numbered
-refused-some s n e =
-    let code = byte s 0 in
-    subst Numbered e
-    (by-cases Numbered (eqb (length s) 0) (λ _. refl) (λ _.
-    by-cases Numbered (ltb 0 (least code)) (λ _.
-    by-cases Numbered (ltb (length s) (least code)) (λ _. refl) (λ _.
-    by-cases Numbered (ltb (most code) (length s)) (λ _. refl) (λ _. numbered-fields code s))) (λ _. refl)))
 
 -- a listed message of at most 1,500 bytes is sent by its writer
 pub write-sent : (m : Message) (reply : List ℕ) → listed m ≡ true → length (layout m) ≤ 1500 → 1500 ≤ length reply → write m reply ≡ sent m reply

@@ -1,1 +1,28 @@
-// The messages: definitions and laws alone (specs/). Reading them is the crate reader, writing them the crate writer.
+// The messages: definitions and laws (specs/), and a frame's fields in numbers. Reading a frame is the crate reader, writing
+// one the crate writer.
+
+// A frame's fields in numbers: what reading answers, what the ends decide by, and what crosses the boundary to C. Fields
+// that the frame's code does not have are 0. `data_at` and `data_length` are the place of the variable part in the frame,
+// `id_at` and `id_length` that of a software id. A refused frame has its refusal, and 0 in all else.
+#[repr(C)]
+pub struct Fields {
+    pub data_at: usize,
+    pub data_length: usize,
+    pub id_at: usize,
+    pub id_length: usize,
+    pub address: u32,
+    pub transfer: u32,
+    pub memory_size: u32,
+    pub count: u16,
+    pub receipt: u16,
+    pub refusal: u8,
+    pub code: u8,
+    pub number: u8,
+    pub error: u8,
+    pub device: u8,
+    pub format: u8,
+    pub program: u8,
+    pub form: u8,
+    pub processor: u8,
+    pub compatibility: u8,
+}

@@ -1,7 +1,7 @@
 // Numbers low byte first, and frames laid into a lent buffer.
 ghost use mathlib.Core.Path.{_≡_};
 ghost use mathlib.Core.List.{_++_};
-ghost use Prim.Native.Nat.{_+_, _*_};
+ghost use Prim.Native.Nat.{_+_, _*_, min};
 ghost use lib.ListN.{getD, take, drop};
 ghost use Rattle.octets.specs.Number.{number, low};
 ghost use Rattle.octets.specs.Lay.{fits, put, laid, Came};
@@ -12,6 +12,13 @@ ghost use Rattle.octets.specs.Lay.{fits, put, laid, Came};
 pub struct Written {
     pub length: usize,
     pub refusal: u8,
+}
+
+// The lesser of two numbers.
+pub fn lesser(a: u64, b: u64) -> u64
+    ensures { λ r. ⌜ r ≡ min a b ⌝ }
+{
+    if a < b { a } else { b }
 }
 
 fn join16(a: u8, b: u8) -> u16

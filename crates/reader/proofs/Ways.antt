@@ -1,46 +1,50 @@
--- The ways through `read` for a frame that is not empty, each with its conditions as the code tests them.
--- Assumes nothing.
-use Prim.Native.Nat.{ℕ, _<_, _≤_}
-use mathlib.Core.Path.{_≡_, ap, sym, _∙_}
-use mathlib.Core.Bool.{true, false, not, cond}
+-- The ways through `fields` for a frame that is not empty, each with its conditions as the code tests them.
+use Prim.Native.Nat.{ℕ, _+_, _-_, _<_, _≤_}
+use mathlib.Core.Path.{_≡_, refl, ap, _∙_}
+use mathlib.Core.Bool.{Bool, true, false, cond}
 use mathlib.Core.List.{List}
 use native.Mathlib.Omega.{arith}
 use lib.ListN.{length}
 use lib.Dec.{ltb}
-use borrow.Author.Tests.{ne-eqb, lt-ltb, le-ltb, not-true, not-false}
-use Rattle.reader.specs.declared.Row.{Row}
+use borrow.Author.Tests.{ne-eqb, lt-ltb, le-ltb}
 use Rattle.message.specs.Message.{least, exact}
-use Rattle.message.specs.Read.{refused, byte, most, fields, read}
-use Rattle.reader.specs.Answer.{row}
+use Rattle.message.specs.Read.{refusedFields, byte, longest, byCode, fields}
+use Rattle.reader.specs.Table.{marked}
 
-module _ (s : List ℕ) (full : length s ≡ 0 → ⊥) (r : Row) (e : r ≡ row (byte s 0)) where
-  pub unlisted : not (r .known) ≡ true → refused 3 ≡ read s
-  unfolding read
-  unlisted t =
-      let k : ltb 0 (least (byte s 0)) ≡ false = sym (ap (λ (x : Row). x .known) e) ∙ not-true (r .known) t in
-      rw (ne-eqb (length s) 0 full, k)
+unmarked : (b : Bool) (n m : ℕ) → n ≡ cond b (256 + m) 0 → n < 256 → b ≡ false
+unmarked true n m e h = absurd (omega arith)
+unmarked false n m e h = refl
 
-  module _ (t : not (r .known) ≡ false) where
+mark : (b : Bool) (n m : ℕ) → n ≡ cond b (256 + m) 0 → 256 ≤ n → (b ≡ true) × (n - 256 ≡ m)
+mark true n m e h = (refl, omega arith)
+mark false n m e h = absurd (omega arith)
+
+module _ (s : List ℕ) (full : length s ≡ 0 → ⊥) (n : ℕ) (e : n ≡ marked (byte s 0)) where
+  pub unlisted : n < 256 → refusedFields 3 ≡ fields s
+  unfolding fields
+  unlisted h = rw (ne-eqb (length s) 0 full, unmarked (ltb 0 (least (byte s 0))) n (least (byte s 0)) e h)
+
+  module _ (k : 256 ≤ n) where
     known : ltb 0 (least (byte s 0)) ≡ true
-    known = sym (ap (λ (x : Row). x .known) e) ∙ not-false (r .known) t
+    known = mark (ltb 0 (least (byte s 0))) n (least (byte s 0)) e k .0
 
-    pub shortest : r .least ≡ least (byte s 0)
-    shortest = ap (λ (x : Row). x .least) e
+    pub shortest : n - 256 ≡ least (byte s 0)
+    shortest = mark (ltb 0 (least (byte s 0))) n (least (byte s 0)) e k .1
 
-    pub early : length s < r .least → refused 1 ≡ read s
-    unfolding read
+    pub early : length s < n - 256 → refusedFields 1 ≡ fields s
+    unfolding fields
     early h = rw (ne-eqb (length s) 0 full, known, lt-ltb (length s) (least (byte s 0)) (rw shortest at h))
 
-    module _ (h : r .least ≤ length s) (m : ℕ) (q : m ≡ cond (exact (byte s 0)) (r .least) 1500) where
-      longest : m ≡ most (byte s 0)
-      longest = q ∙ ap (λ (n : ℕ). cond (exact (byte s 0)) n 1500) shortest
+    module _ (h : n - 256 ≤ length s) (m : ℕ) (q : m ≡ cond (exact (byte s 0)) (n - 256) 1500) where
+      limit : m ≡ longest (byte s 0)
+      limit = q ∙ ap (λ (i : ℕ). cond (exact (byte s 0)) i 1500) shortest
 
-      pub excess : m < length s → refused 2 ≡ read s
-      unfolding read
+      pub excess : m < length s → refusedFields 2 ≡ fields s
+      unfolding fields
       excess l =
-          rw (ne-eqb (length s) 0 full, known, le-ltb (length s) (least (byte s 0)) (rw shortest at h), lt-ltb (most (byte s 0)) (length s) (rw longest at l))
+          rw (ne-eqb (length s) 0 full, known, le-ltb (length s) (least (byte s 0)) (rw shortest at h), lt-ltb (longest (byte s 0)) (length s) (rw limit at l))
 
-      pub whole : length s ≤ m → fields (byte s 0) s ≡ read s
-      unfolding read
+      pub whole : length s ≤ m → byCode (byte s 0) s ≡ fields s
+      unfolding fields
       whole l =
-          rw (ne-eqb (length s) 0 full, known, le-ltb (length s) (least (byte s 0)) (rw shortest at h), le-ltb (most (byte s 0)) (length s) (rw longest at l))
+          rw (ne-eqb (length s) 0 full, known, le-ltb (length s) (least (byte s 0)) (rw shortest at h), le-ltb (longest (byte s 0)) (length s) (rw limit at l))

@@ -1,162 +1,54 @@
-// Reading frames (paper 01, 'Messages').
+// Reading frames (paper 01, 'Messages'): a frame's fields in numbers.
 ghost use mathlib.Core.Path.{_≡_};
 ghost use Prim.Native.Nat.{_≤_};
 ghost use lib.ListN.{length};
 ghost use mathlib.Core.Bool.{cond};
 ghost use Rattle.message.specs.Message.{least, exact};
-ghost use Rattle.message.specs.Read.{read, fields, memoryLoadTransferFields, memoryLoadFields, requestProgramFields, withId, requestLoadFields, requestDumpFields, requestDumpServiceFields, dumpDataFields, ended, parametersFields, loopDataFields, loopedDataFields};
-ghost use Rattle.reader.specs.Answer.{Reads, row};
+ghost use Rattle.message.specs.Read.{fields, byCode, refusedFields, memoryLoadTransferFields, memoryLoadFields, requestProgramFields, withId, requestLoadFields, requestDumpFields, requestDumpServiceFields, dumpDataFields, codeFields, ended, parametersFields, loopFields};
+ghost use Rattle.reader.specs.Table.{marked};
 use entries::Place;
+use message::Fields;
 
-// A frame as read: its numbers, and the places of its variable parts. `end` is the place behind a part.
-pub enum Frame {
-    // Code 0. The data is 6..end.
-    MemoryLoadTransfer {
-        number: u8,
-        address: u32,
-        end: usize,
-        transfer: u32,
-    },
-    // Code 2. The data is 6.. .
-    MemoryLoad {
-        number: u8,
-        address: u32,
-    },
-    // Code 8. The software id is 5..end, the info end + 1.. .
-    RequestProgram {
-        device: u8,
-        format: u8,
-        program: u8,
-        form: u8,
-        end: usize,
-        processor: u8,
-    },
-    // Code 10.
-    RequestLoad {
-        number: u8,
-        error: u8,
-    },
-    // Code 4.
-    RequestDump {
-        address: u32,
-        count: u16,
-    },
-    // Code 12. The info is 8.. .
-    RequestDumpService {
-        device: u8,
-        format: u8,
-        size: u32,
-        compatibility: u8,
-    },
-    // Code 14. The data is 5.. .
-    DumpData {
-        address: u32,
-    },
-    // Code 1.
-    DumpComplete,
-    // Code 3.
-    Volunteer,
-    // Code 20. The entries, without their end mark, are 2..end.
-    Parameters {
-        number: u8,
-        end: usize,
-        transfer: u32,
-    },
-    // Code 24. The data is 3.. .
-    LoopData {
-        receipt: u16,
-    },
-    // Code 26. The data is 3.. .
-    LoopedData {
-        receipt: u16,
-    },
-    // A refusal, by paper 01's number.
-    Refused(u8),
-}
+// What marks a known code in the table of codes.
+const KNOWN: u16 = 256;
 
-// A row of the table of codes: whether a code is known, and its least length.
-struct Row {
-    known: bool,
-    least: u8,
-}
-
-const NONE: Row = Row {
-    known: false,
-    least: 0,
-};
-
-// The codes 0 to 26.
-const CODES: [Row; 27] = [
-    Row {
-        known: true,
-        least: 10,
-    },
-    Row {
-        known: true,
-        least: 1,
-    },
-    Row {
-        known: true,
-        least: 6,
-    },
-    Row {
-        known: true,
-        least: 1,
-    },
-    Row {
-        known: true,
-        least: 7,
-    },
-    NONE,
-    NONE,
-    NONE,
-    Row {
-        known: true,
-        least: 6,
-    },
-    NONE,
-    Row {
-        known: true,
-        least: 3,
-    },
-    NONE,
-    Row {
-        known: true,
-        least: 8,
-    },
-    NONE,
-    Row {
-        known: true,
-        least: 5,
-    },
-    NONE,
-    NONE,
-    NONE,
-    NONE,
-    NONE,
-    Row {
-        known: true,
-        least: 7,
-    },
-    NONE,
-    NONE,
-    NONE,
-    Row {
-        known: true,
-        least: 3,
-    },
-    NONE,
-    Row {
-        known: true,
-        least: 3,
-    },
+// The codes 0 to 26: the mark and the least length of a known code, or 0.
+const CODES: [u16; 27] = [
+    KNOWN + 10,
+    KNOWN + 1,
+    KNOWN + 6,
+    KNOWN + 1,
+    KNOWN + 7,
+    0,
+    0,
+    0,
+    KNOWN + 6,
+    0,
+    KNOWN + 3,
+    0,
+    KNOWN + 8,
+    0,
+    KNOWN + 5,
+    0,
+    0,
+    0,
+    0,
+    0,
+    KNOWN + 7,
+    0,
+    0,
+    0,
+    KNOWN + 3,
+    0,
+    KNOWN + 3,
 ];
 
-fn row_of(code: u8) -> Row
-    ensures { λ r. ⌜ r ≡ row code ⌝ }
+// The table's entry of a code, 0 beyond its end.
+fn entry(code: u8) -> u16
+    ensures { λ r. ⌜ r ≡ marked code ⌝ }
 {
     if 26 < code {
-        return NONE;
+        return 0;
     }
     CODES[code as usize]
 }
@@ -174,163 +66,221 @@ fn longest(code: u8, least: usize) -> usize
     }
 }
 
+// No fields.
+const BLANK: Fields = Fields {
+    data_at: 0,
+    data_length: 0,
+    id_at: 0,
+    id_length: 0,
+    address: 0,
+    transfer: 0,
+    memory_size: 0,
+    count: 0,
+    receipt: 0,
+    refusal: 0,
+    code: 0,
+    number: 0,
+    error: 0,
+    device: 0,
+    format: 0,
+    program: 0,
+    form: 0,
+    processor: 0,
+    compatibility: 0,
+};
+
+// The numbers of a frame that has its code alone.
+fn of_code(code: u8) -> Fields
+    ensures { λ r. ⌜ r ≡ codeFields code ⌝ }
+{
+    let mut f = BLANK;
+    f.code = code;
+    f
+}
+
+// A refused frame.
+fn refused(refusal: u8) -> Fields
+    ensures { λ r. ⌜ r ≡ refusedFields refusal ⌝ }
+{
+    let mut f = BLANK;
+    f.refusal = refusal;
+    f
+}
+
 // Reads a frame of any length and content.
-pub fn read(s: &[u8]) -> Frame
-    ensures { λ r. ⌜ Reads (now (s .entry)) (read (now (s .entry))) r ⌝ }
+pub fn read(s: &[u8]) -> Fields
+    ensures { λ r. ⌜ r ≡ fields (now (s .entry)) ⌝ }
 {
     if s.len() == 0 {
-        return Frame::Refused(1);
+        return refused(1);
     }
     let code = s[0];
-    let row = row_of(code);
-    if !row.known {
-        return Frame::Refused(3);
+    let entry = entry(code);
+    if entry < KNOWN {
+        return refused(3);
     }
-    let least = row.least as usize;
+    let least = (entry - KNOWN) as usize;
     if s.len() < least {
-        return Frame::Refused(1);
+        return refused(1);
     }
     if longest(code, least) < s.len() {
-        return Frame::Refused(2);
+        return refused(2);
     }
-    fields(code, s)
+    by_code(code, s)
 }
 
-// The fields of a frame of this code, which has at least its least length.
-fn fields(code: u8, s: &[u8]) -> Frame
+// A frame of this code, which has at least its least length. Each arm returns by itself: answers that meet are slower.
+fn by_code(code: u8, s: &[u8]) -> Fields
     requires { ⌜ least code ≤ length (now s) ⌝ }
-    ensures { λ r. ⌜ Reads (now (s .entry)) (fields code (now (s .entry))) r ⌝ }
+    ensures { λ r. ⌜ r ≡ byCode code (now (s .entry)) ⌝ }
 {
     match code {
-        0 => memory_load_transfer(s),
-        2 => memory_load(s),
-        8 => request_program(s),
-        10 => request_load(s),
-        4 => request_dump(s),
-        12 => request_dump_service(s),
-        14 => dump_data(s),
-        1 => Frame::DumpComplete,
-        3 => Frame::Volunteer,
-        20 => parameters(s),
-        24 => loop_data(s),
-        26 => looped_data(s),
-        _ => Frame::Refused(3),
+        0 => return memory_load_transfer(s),
+        2 => return memory_load(s),
+        8 => return request_program(s),
+        10 => return request_load(s),
+        4 => return request_dump(s),
+        12 => return request_dump_service(s),
+        14 => return dump_data(s),
+        1 => return of_code(1),
+        3 => return of_code(3),
+        20 => return parameters(s),
+        24 => return looping(24, s),
+        26 => return looping(26, s),
+        _ => return refused(3),
     }
 }
 
-fn memory_load_transfer(s: &[u8]) -> Frame
+fn memory_load_transfer(s: &[u8]) -> Fields
     requires { ⌜ 10 ≤ length (now s) ⌝ }
-    ensures { λ r. ⌜ Reads (now (s .entry)) (memoryLoadTransferFields (now (s .entry))) r ⌝ }
+    ensures { λ r. ⌜ r ≡ memoryLoadTransferFields (now (s .entry)) ⌝ }
 {
-    let end = s.len() - 4;
-    Frame::MemoryLoadTransfer {
-        number: s[1],
-        address: octets::word32(s, 2),
-        end,
-        transfer: octets::word32(s, end),
-    }
+    let mut f = BLANK;
+    f.number = s[1];
+    f.address = octets::word32(s, 2);
+    f.transfer = octets::word32(s, s.len() - 4);
+    f.data_at = 6;
+    f.data_length = s.len() - 10;
+    f
 }
 
-fn memory_load(s: &[u8]) -> Frame
+fn memory_load(s: &[u8]) -> Fields
     requires { ⌜ 6 ≤ length (now s) ⌝ }
-    ensures { λ r. ⌜ Reads (now (s .entry)) (memoryLoadFields (now (s .entry))) r ⌝ }
+    ensures { λ r. ⌜ r ≡ memoryLoadFields (now (s .entry)) ⌝ }
 {
-    Frame::MemoryLoad {
-        number: s[1],
-        address: octets::word32(s, 2),
-    }
+    let mut f = BLANK;
+    f.code = 2;
+    f.number = s[1];
+    f.address = octets::word32(s, 2);
+    f.data_at = 6;
+    f.data_length = s.len() - 6;
+    f
 }
 
-fn request_program(s: &[u8]) -> Frame
+fn request_program(s: &[u8]) -> Fields
     requires { ⌜ 6 ≤ length (now s) ⌝ }
-    ensures { λ r. ⌜ Reads (now (s .entry)) (requestProgramFields (now (s .entry))) r ⌝ }
+    ensures { λ r. ⌜ r ≡ requestProgramFields (now (s .entry)) ⌝ }
 {
     let program = s[3];
     if 2 < program {
-        return Frame::Refused(4);
+        return refused(4);
     }
     let form = s[4];
     if form <= 16 {
         return with_id(s, form as usize);
     }
     if form < 254 {
-        return Frame::Refused(4);
+        return refused(4);
     }
     with_id(s, 0)
 }
 
 // A program request whose software id has n bytes.
-fn with_id(s: &[u8], n: usize) -> Frame
+fn with_id(s: &[u8], n: usize) -> Fields
     requires { ⌜ (6 ≤ length (now s)) × (n ≤ 16) ⌝ }
-    ensures { λ r. ⌜ Reads (now (s .entry)) (withId n (now (s .entry))) r ⌝ }
+    ensures { λ r. ⌜ r ≡ withId n (now (s .entry)) ⌝ }
 {
-    let end = 5 + n;
-    if s.len() <= end {
-        return Frame::Refused(1);
+    let end = 6 + n;
+    if s.len() < end {
+        return refused(1);
     }
-    Frame::RequestProgram {
-        device: s[1],
-        format: s[2],
-        program: s[3],
-        form: s[4],
-        end,
-        processor: s[end],
-    }
+    let mut f = BLANK;
+    f.code = 8;
+    f.device = s[1];
+    f.format = s[2];
+    f.program = s[3];
+    f.form = s[4];
+    f.id_at = 5;
+    f.id_length = n;
+    f.processor = s[5 + n];
+    f.data_at = end;
+    f.data_length = s.len() - end;
+    f
 }
 
-fn request_load(s: &[u8]) -> Frame
+fn request_load(s: &[u8]) -> Fields
     requires { ⌜ 3 ≤ length (now s) ⌝ }
-    ensures { λ r. ⌜ Reads (now (s .entry)) (requestLoadFields (now (s .entry))) r ⌝ }
+    ensures { λ r. ⌜ r ≡ requestLoadFields (now (s .entry)) ⌝ }
 {
-    Frame::RequestLoad {
-        number: s[1],
-        error: s[2],
-    }
+    let mut f = BLANK;
+    f.code = 10;
+    f.number = s[1];
+    f.error = s[2];
+    f
 }
 
-fn request_dump(s: &[u8]) -> Frame
-    ensures { λ r. ⌜ Reads (now (s .entry)) (requestDumpFields (now (s .entry))) r ⌝ }
+fn request_dump(s: &[u8]) -> Fields
+    ensures { λ r. ⌜ r ≡ requestDumpFields (now (s .entry)) ⌝ }
 {
-    Frame::RequestDump {
-        address: octets::word32(s, 1),
-        count: octets::word16(s, 5),
-    }
+    let mut f = BLANK;
+    f.code = 4;
+    f.address = octets::word32(s, 1);
+    f.count = octets::word16(s, 5);
+    f
 }
 
-fn request_dump_service(s: &[u8]) -> Frame
+fn request_dump_service(s: &[u8]) -> Fields
     requires { ⌜ 8 ≤ length (now s) ⌝ }
-    ensures { λ r. ⌜ Reads (now (s .entry)) (requestDumpServiceFields (now (s .entry))) r ⌝ }
+    ensures { λ r. ⌜ r ≡ requestDumpServiceFields (now (s .entry)) ⌝ }
 {
-    Frame::RequestDumpService {
-        device: s[1],
-        format: s[2],
-        size: octets::word32(s, 3),
-        compatibility: s[7],
-    }
+    let mut f = BLANK;
+    f.code = 12;
+    f.device = s[1];
+    f.format = s[2];
+    f.memory_size = octets::word32(s, 3);
+    f.compatibility = s[7];
+    f.data_at = 8;
+    f.data_length = s.len() - 8;
+    f
 }
 
-fn dump_data(s: &[u8]) -> Frame
+fn dump_data(s: &[u8]) -> Fields
     requires { ⌜ 5 ≤ length (now s) ⌝ }
-    ensures { λ r. ⌜ Reads (now (s .entry)) (dumpDataFields (now (s .entry))) r ⌝ }
+    ensures { λ r. ⌜ r ≡ dumpDataFields (now (s .entry)) ⌝ }
 {
-    Frame::DumpData {
-        address: octets::word32(s, 1),
-    }
+    let mut f = BLANK;
+    f.code = 14;
+    f.address = octets::word32(s, 1);
+    f.data_at = 5;
+    f.data_length = s.len() - 5;
+    f
 }
 
-fn parameters(s: &[u8]) -> Frame
+fn parameters(s: &[u8]) -> Fields
     requires { ⌜ 7 ≤ length (now s) ⌝ }
-    ensures { λ r. ⌜ Reads (now (s .entry)) (parametersFields (now (s .entry))) r ⌝ }
+    ensures { λ r. ⌜ r ≡ parametersFields (now (s .entry)) ⌝ }
 {
     let refusal = ended(entries::walk(s, 2));
     if refusal != 0 {
-        return Frame::Refused(refusal);
+        return refused(refusal);
     }
-    Frame::Parameters {
-        number: s[1],
-        end: s.len() - 5,
-        transfer: octets::word32(s, s.len() - 4),
-    }
+    let mut f = BLANK;
+    f.code = 20;
+    f.number = s[1];
+    f.transfer = octets::word32(s, s.len() - 4);
+    f.data_at = 2;
+    f.data_length = s.len() - 7;
+    f
 }
 
 // What the place means at which the walk ended; 0 is no refusal.
@@ -348,20 +298,15 @@ fn ended(p: Place) -> u8
     }
 }
 
-fn loop_data(s: &[u8]) -> Frame
+// Codes 24 and 26.
+fn looping(code: u8, s: &[u8]) -> Fields
     requires { ⌜ 3 ≤ length (now s) ⌝ }
-    ensures { λ r. ⌜ Reads (now (s .entry)) (loopDataFields (now (s .entry))) r ⌝ }
+    ensures { λ r. ⌜ r ≡ loopFields code (now (s .entry)) ⌝ }
 {
-    Frame::LoopData {
-        receipt: octets::word16(s, 1),
-    }
-}
-
-fn looped_data(s: &[u8]) -> Frame
-    requires { ⌜ 3 ≤ length (now s) ⌝ }
-    ensures { λ r. ⌜ Reads (now (s .entry)) (loopedDataFields (now (s .entry))) r ⌝ }
-{
-    Frame::LoopedData {
-        receipt: octets::word16(s, 1),
-    }
+    let mut f = BLANK;
+    f.code = code;
+    f.receipt = octets::word16(s, 1);
+    f.data_at = 3;
+    f.data_length = s.len() - 3;
+    f
 }

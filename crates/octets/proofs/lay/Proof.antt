@@ -2,9 +2,6 @@ use borrow.Author.Needs.{needs}
 use mathlib.Core.List.{append-nil}
 use Rattle.octets.proofs.lay.Statement.{statement}
 use Rattle.octets.proofs.lay.Tie as tie
-use Rattle.octets.proofs.lay.Reads as reads
-use Rattle.octets.proofs.lay.Lts as lts
-use Rattle.octets.proofs.lay_three.Reads as lay-three-reads
 
 slice-aggregate-lay-three : tie.Need-slice-aggregate-lay-three
 slice-aggregate-lay-three c = search needs

@@ -4,9 +4,6 @@ use native.Mathlib.Omega.{arith}
 use Rattle.octets.specs.Lay.{length-joined, laid-over, laid-short, laid-four}
 use Rattle.octets.proofs.lay_four.Statement.{statement}
 use Rattle.octets.proofs.lay_four.Tie as tie
-use Rattle.octets.proofs.lay_four.Reads as reads
-use Rattle.octets.proofs.lay_four.Lts as lts
-use Rattle.octets.proofs.put.Reads as put-reads
 
 add-b : tie.Need-add-b
 add-b c = search needs
@@ -55,11 +52,12 @@ same-length c = search needs
 
 returns-5 : tie.Need-returns-5
 returns-5 c =
-    let a = c .before .before .before .before .before .before .before .before .before .before .before .before .before .before .before .before .before .before .before .before .before .before .before .before .before .args in
+    let went = c .before .before .before .before .before .before in
+    let a = went .before .before .before .before .before .before .before .before .before .before .before .before .before .before .before .before .before .before .before .args in
     laid-four (a .head .now) (a .body .now) (a .tail .now) (a .rest .now) (a .out .now) _ _ _ _ (omega arith) (omega arith)
-    (c .before .before .before .before .before .before .before .before .before .before .before .before .before .before .put .ensures .1)
-    (c .before .before .before .before .before .before .before .before .before .before .put2 .ensures .1)
-    (c .before .before .before .before .before .before .put3 .ensures .1)
+    (went .before .before .before .before .before .before .before .before .put .ensures .1)
+    (went .before .before .before .before .put2 .ensures .1)
+    (went .put3 .ensures .1)
     (c .before .before .put4 .ensures .1)
 
 pub lay-four-spec : {M : Type 1} → statement M

@@ -2,9 +2,6 @@ use borrow.Author.Needs.{needs}
 use mathlib.Core.List.{append-nil}
 use Rattle.octets.proofs.lay_three.Statement.{statement}
 use Rattle.octets.proofs.lay_three.Tie as tie
-use Rattle.octets.proofs.lay_three.Reads as reads
-use Rattle.octets.proofs.lay_three.Lts as lts
-use Rattle.octets.proofs.lay_four.Reads as lay-four-reads
 
 slice-aggregate-lay-four : tie.Need-slice-aggregate-lay-four
 slice-aggregate-lay-four c = search needs

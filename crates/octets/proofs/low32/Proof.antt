@@ -3,8 +3,6 @@ use mathlib.Core.Path.{refl}
 use Rattle.octets.specs.Number.{low}
 use Rattle.octets.proofs.low32.Statement.{statement}
 use Rattle.octets.proofs.low32.Tie as tie
-use Rattle.octets.proofs.low32.Reads as reads
-use Rattle.octets.proofs.low32.Lts as lts
 
 cast-t3 : tie.Need-cast-t3
 cast-t3 c = search needs

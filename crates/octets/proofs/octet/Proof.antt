@@ -3,8 +3,6 @@ use native.Mathlib.Omega.{arith}
 use lib.ListN.{List·getD-eq-default}
 use Rattle.octets.proofs.octet.Statement.{statement}
 use Rattle.octets.proofs.octet.Tie as tie
-use Rattle.octets.proofs.octet.Reads as reads
-use Rattle.octets.proofs.octet.Lts as lts
 
 shared-slice-read-result : tie.Need-shared-slice-read-result
 shared-slice-read-result c = search needs

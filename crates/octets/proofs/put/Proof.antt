@@ -4,9 +4,6 @@ use native.Mathlib.Omega.{arith}
 use Rattle.octets.specs.Lay.{put-refused, put-whole, copied}
 use Rattle.octets.proofs.put.Statement.{statement}
 use Rattle.octets.proofs.put.Tie as tie
-use Rattle.octets.proofs.put.Reads as reads
-use Rattle.octets.proofs.put.Lts as lts
-use Rattle.bytes.proofs.copy.Reads as copy-reads
 
 returns : tie.Need-returns
 returns c =

@@ -25,7 +25,9 @@ join16-requires : tie.Need-join16-requires
 join16-requires c κs = search needs
 
 returns-2 : tie.Need-returns-2
-returns-2 c = omega (arith, number-two (c .before .before .before .before .before .before .args .at) (c .before .before .before .before .before .before .args .s .now))
+returns-2 c =
+    let went = c .before .before .before .before .before .before in
+    omega (arith, number-two (went .args .at) (went .args .s .now))
 
 octet-requires : tie.Need-octet-requires
 octet-requires c κs = search needs
@@ -40,7 +42,9 @@ join16-requires-2 : tie.Need-join16-requires-2
 join16-requires-2 c κs = search needs
 
 returns-3 : tie.Need-returns-3
-returns-3 c = omega (arith, number-two (c .before .before .before .before .before .before .args .at) (c .before .before .before .before .before .before .args .s .now))
+returns-3 c =
+    let went = c .before .before .before .before .before .before in
+    omega (arith, number-two (went .args .at) (went .args .s .now))
 
 pub word16-spec : {M : Type 1} → statement M
 word16-spec =

@@ -37,7 +37,9 @@ join32-requires : tie.Need-join32-requires
 join32-requires c κs = search needs
 
 returns-2 : tie.Need-returns-2
-returns-2 c = omega (arith, number-four (c .before .before .before .before .before .before .before .before .args .at) (c .before .before .before .before .before .before .before .before .args .s .now))
+returns-2 c =
+    let went = c .before .before .before .before .before .before .before .before in
+    omega (arith, number-four (went .args .at) (went .args .s .now))
 
 octet-requires : tie.Need-octet-requires
 octet-requires c κs = search needs
@@ -64,7 +66,9 @@ join32-requires-2 : tie.Need-join32-requires-2
 join32-requires-2 c κs = search needs
 
 returns-3 : tie.Need-returns-3
-returns-3 c = omega (arith, number-four (c .before .before .before .before .before .before .before .before .args .at) (c .before .before .before .before .before .before .before .before .args .s .now))
+returns-3 c =
+    let went = c .before .before .before .before .before .before .before .before in
+    omega (arith, number-four (went .args .at) (went .args .s .now))
 
 pub word32-spec : {M : Type 1} → statement M
 word32-spec =

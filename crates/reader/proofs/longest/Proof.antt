@@ -1,26 +1,19 @@
 use borrow.Author.Tests.{ne-eqb}
 use Rattle.reader.proofs.longest.Statement.{statement}
 use Rattle.reader.proofs.longest.Tie as tie
-use Rattle.reader.proofs.longest.Reads as reads
-use Rattle.reader.proofs.longest.Lts as lts
 
--- src/lib.rt:149:1
 returns : tie.Need-returns
 returns c = rw (c .match .keys1)
 
--- src/lib.rt:149:1
 returns-2 : tie.Need-returns-2
 returns-2 c = rw (c .match .keys2)
 
--- src/lib.rt:149:1
 returns-3 : tie.Need-returns-3
 returns-3 c = rw (c .match .keys3)
 
--- src/lib.rt:149:1
 returns-4 : tie.Need-returns-4
 returns-4 c = rw (c .match .keys4)
 
--- src/lib.rt:149:1
 returns-5 : tie.Need-returns-5
 returns-5 c =
     let r = c .match .rest in

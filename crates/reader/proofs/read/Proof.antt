@@ -1,81 +1,78 @@
 use borrow.Author.Needs.{needs}
 use borrow.Author.Tests.{eq-eqb}
-use Rattle.message.specs.Read.{read}
+use Rattle.message.specs.Read.{fields}
 use Rattle.reader.proofs.Ways.{unlisted, shortest, early, excess, whole}
 use Rattle.reader.proofs.read.Statement.{statement}
 use Rattle.reader.proofs.read.Tie as tie
-use Rattle.reader.proofs.read.Reads as reads
-use Rattle.reader.proofs.read.Lts as lts
-use Rattle.reader.proofs.fields.Reads as fields-reads
-use Rattle.reader.proofs.longest.Reads as longest-reads
-use Rattle.reader.proofs.row_of.Reads as row-of-reads
 
--- src/lib.rt:166:9
+refused-requires : tie.Need-refused-requires
+refused-requires c κs = search needs
+
 returns : tie.Need-returns
-unfolding read
-returns c = record { means = rw (eq-eqb _ _ (c .if1 .taken)); within = tt }
+unfolding fields
+returns c = rw (eq-eqb _ _ (c .before .if1 .taken)) (c .refused .ensures)
 
--- src/lib.rt:168:16
 shared-slice-read-code : tie.Need-shared-slice-read-code
 shared-slice-read-code c = search needs
 
--- src/lib.rt:169:9
-row-of-requires : tie.Need-row-of-requires
-row-of-requires c κs = search needs
+entry-requires : tie.Need-entry-requires
+entry-requires c κs = search needs
 
--- src/lib.rt:171:9
+refused-requires-2 : tie.Need-refused-requires-2
+refused-requires-2 c κs = search needs
+
 returns-2 : tie.Need-returns-2
 returns-2 c =
-    let s = c .before .before .before .before .before .before .args .s .now in
-    record { means = unlisted s (c .before .before .before .before .if1 .left) _ (c .before .before .row-of .ensures) (c .if2 .taken); within = tt }
+    let went = c .before .before in
+    rw (← unlisted (c .before .before .before .before .before .before .args .s .now) (went .before .before .if1 .left) _ (went .entry .ensures) (c .before .if2 .taken)) (c .refused2 .ensures)
 
--- src/lib.rt:173:17
 cast-least : tie.Need-cast-least
 cast-least c = search needs
 
--- src/lib.rt:175:9
+refused-requires-3 : tie.Need-refused-requires-3
+refused-requires-3 c κs = search needs
+
 returns-3 : tie.Need-returns-3
 returns-3 c =
-    let s = c .before .before .before .before .before .before .before .before .args .s .now in
-    record { means = early s (c .before .before .before .before .before .before .if1 .left) _ (c .before .before .before .before .row-of .ensures) (c .before .before .if2 .left) (c .if3 .taken); within = tt }
+    let went = c .before .before in
+    rw (← early (c .before .before .before .before .before .before .before .args .s .now) (went .before .before .before .if1 .left) _ (went .before .entry .ensures) (went .if2 .left) (c .before .if3 .taken)) (c .refused3 .ensures)
 
--- src/lib.rt:177:8
 longest-requires : tie.Need-longest-requires
 longest-requires c κs = search needs
 
--- src/lib.rt:178:9
+refused-requires-4 : tie.Need-refused-requires-4
+refused-requires-4 c κs = search needs
+
 returns-4 : tie.Need-returns-4
 returns-4 c =
-    let s = c .before .before .before .before .before .before .before .before .before .before .args .s .now in
-    record {
-      means = excess s (c .before .before .before .before .before .before .before .before .if1 .left) _ (c .before .before .before .before .before .before .row-of .ensures) (c .before .before .before .before .if2 .left) (c .before .before .if3 .left) _ (c .before .longest .ensures) (c .if4 .taken);
-      within = tt;
-    }
+    let went = c .before .before .before in
+    rw (← excess (c .before .before .before .before .before .before .before .before .before .args .s .now) (went .before .before .before .before .if1 .left) _ (went .before .before .entry .ensures) (went .before .if2 .left) (went .if3 .left) _ (c .before .before .longest .ensures) (c .before .if4 .taken)) (c .refused4 .ensures)
 
--- src/lib.rt:180:5
-fields-requires : tie.Need-fields-requires
-fields-requires c κs =
-    let s = c .before .before .before .before .before .before .before .before .before .before .args .s .now in
-    rw (shortest s (c .before .before .before .before .before .before .before .before .if1 .left) _ (c .before .before .before .before .before .before .row-of .ensures) (c .before .before .before .before .if2 .left)) at (c .before .before .if3 .left)
+by-code-requires : tie.Need-by-code-requires
+by-code-requires c κs =
+    let went = c .before .before in
+    rw (shortest (c .before .before .before .before .before .before .before .before .args .s .now) (went .before .before .before .before .if1 .left) _ (went .before .before .entry .ensures) (went .before .if2 .left)) at (went .if3 .left)
 
--- src/lib.rt:162:1
 returns-5 : tie.Need-returns-5
 returns-5 c =
-    let s = c .before .before .before .before .before .before .before .before .before .before .before .args .s .now in
-    rw (← whole s (c .before .before .before .before .before .before .before .before .before .if1 .left) _ (c .before .before .before .before .before .before .before .row-of .ensures) (c .before .before .before .before .before .if2 .left) (c .before .before .before .if3 .left) _ (c .before .before .longest .ensures) (c .before .if4 .left))
-    (c .fields .ensures)
+    let went = c .before .before .before in
+    rw (← whole (c .before .before .before .before .before .before .before .before .before .args .s .now) (went .before .before .before .before .if1 .left) _ (went .before .before .entry .ensures) (went .before .if2 .left) (went .if3 .left) _ (c .before .before .longest .ensures) (c .before .if4 .left)) (c .by-code .ensures)
 
 pub read-spec : {M : Type 1} → statement M
 read-spec =
     tie.close
     (tie.spec
+    refused-requires
     returns
     shared-slice-read-code
-    row-of-requires
+    entry-requires
+    refused-requires-2
     returns-2
     cast-least
+    refused-requires-3
     returns-3
     longest-requires
+    refused-requires-4
     returns-4
-    fields-requires
+    by-code-requires
     returns-5)
