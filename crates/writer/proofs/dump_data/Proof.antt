@@ -1,60 +1,24 @@
 use borrow.Author.Needs.{needs}
-use Rattle.octets.specs.Number.{low}
 use Rattle.message.specs.Write.{layout, write}
 use Rattle.writer.proofs.dump_data.Statement.{statement}
 use Rattle.writer.proofs.dump_data.Tie as tie
-use Rattle.writer.proofs.dump_data.Reads as reads
-use Rattle.writer.proofs.dump_data.Lts as lts
-use Rattle.octets.proofs.lay.Reads as lay-reads
-use Rattle.octets.proofs.low32.Reads as low32-reads
 
--- src/lib.rt:60:13
-low32-requires : tie.Need-low32-requires
-low32-requires c κs = search needs
+addressed-requires : tie.Need-addressed-requires
+addressed-requires c κs = search needs
 
--- src/lib.rt:61:21
-array-read-t9 : tie.Need-array-read-t9
-array-read-t9 c = search needs
-
--- src/lib.rt:61:27
-array-read-t12 : tie.Need-array-read-t12
-array-read-t12 c = search needs
-
--- src/lib.rt:61:33
-array-read-t15 : tie.Need-array-read-t15
-array-read-t15 c = search needs
-
--- src/lib.rt:61:39
-array-read-t18 : tie.Need-array-read-t18
-array-read-t18 c = search needs
-
--- src/lib.rt:62:17
 slice-aggregate-lay : tie.Need-slice-aggregate-lay
 slice-aggregate-lay c = search needs
 
--- src/lib.rt:62:5
 lay-requires : tie.Need-lay-requires
 lay-requires c κs = search needs
 
--- src/lib.rt:57:1
 same-length : tie.Need-same-length
 same-length c = search needs
 
--- src/lib.rt:57:1
 returns : tie.Need-returns
-unfolding write layout low
-returns c = rw (c .before .before .before .before .before .low32 .ensures) at (c .before .before .lay .ensures)
+unfolding write layout
+returns c = rw (c .before .before .before .before .before .addressed .ensures) at (c .before .before .lay .ensures)
 
 pub dump-data-spec : {M : Type 1} → statement M
 dump-data-spec =
-    tie.close
-    (tie.spec
-    low32-requires
-    array-read-t9
-    array-read-t12
-    array-read-t15
-    array-read-t18
-    slice-aggregate-lay
-    lay-requires
-    same-length
-    returns)
+    tie.close (tie.spec addressed-requires slice-aggregate-lay lay-requires same-length returns)

@@ -1,18 +1,13 @@
 use borrow.Author.Tests.{le-leb, lt-leb}
-use Rattle.writer.proofs.id_fits.Statement.{statement}
-use Rattle.writer.proofs.id_fits.Tie as tie
-use Rattle.writer.proofs.id_fits.Reads as reads
-use Rattle.writer.proofs.id_fits.Lts as lts
+use Rattle.writer_listed.proofs.id_fits.Statement.{statement}
+use Rattle.writer_listed.proofs.id_fits.Tie as tie
 
--- src/lib.rt:121:9
 returns : tie.Need-returns
 returns c = rw (le-leb _ _ (c .if1 .taken))
 
--- src/lib.rt:124:9
 returns-2 : tie.Need-returns-2
 returns-2 c = rw (lt-leb _ _ (c .before .if1 .left), lt-leb _ _ (c .if2 .taken))
 
--- src/lib.rt:117:1
 returns-3 : tie.Need-returns-3
 returns-3 c = rw (lt-leb _ _ (c .before .if1 .left), le-leb _ _ (c .if2 .left))
 

@@ -11,24 +11,15 @@ use Rattle.entries.specs.Entries.{walk}
 use Rattle.message.specs.Message.{parameters}
 use Rattle.message.specs.Write.{layout, whole, write}
 use Rattle.message.specs.Laws.{wrote}
-use Rattle.writer.proofs.parameters.Statement.{statement}
-use Rattle.writer.proofs.parameters.Tie as tie
-use Rattle.writer.proofs.parameters.Reads as reads
-use Rattle.writer.proofs.parameters.Lts as lts
-use Rattle.entries.proofs.walk.Reads as walk-reads
-use Rattle.octets.proofs.lay_three.Reads as lay-three-reads
-use Rattle.octets.proofs.low32.Reads as low32-reads
-use Rattle.writer.proofs.whole.Reads as whole-reads
+use Rattle.writer_listed.proofs.parameters.Statement.{statement}
+use Rattle.writer_listed.proofs.parameters.Tie as tie
 
--- src/lib.rt:136:15
 walk-requires : tie.Need-walk-requires
 walk-requires c κs = search needs
 
--- src/lib.rt:136:9
 whole-requires : tie.Need-whole-requires
 whole-requires c κs = search needs
 
--- src/lib.rt:137:9
 returns : tie.Need-returns
 unfolding write
 returns c =
@@ -36,52 +27,43 @@ returns c =
     let no : whole (walk Kind (a .entries .now)) ≡ false = sym (c .before .whole .ensures ∙ ap whole (c .before .before .walk .ensures)) ∙ not-true _ (c .if1 .taken) in
     rw no (refl, refl)
 
--- src/lib.rt:139:13
 low32-requires : tie.Need-low32-requires
 low32-requires c κs = search needs
 
--- src/lib.rt:141:20
 array-read-t14 : tie.Need-array-read-t14
 array-read-t14 c = search needs
 
--- src/lib.rt:141:26
 array-read-t17 : tie.Need-array-read-t17
 array-read-t17 c = search needs
 
--- src/lib.rt:141:32
 array-read-t20 : tie.Need-array-read-t20
 array-read-t20 c = search needs
 
--- src/lib.rt:141:38
 array-read-t23 : tie.Need-array-read-t23
 array-read-t23 c = search needs
 
--- src/lib.rt:142:23
 slice-aggregate-lay-three : tie.Need-slice-aggregate-lay-three
 slice-aggregate-lay-three c = search needs
 
--- src/lib.rt:142:39
 slice-aggregate-lay-three-2 : tie.Need-slice-aggregate-lay-three-2
 slice-aggregate-lay-three-2 c = search needs
 
--- src/lib.rt:142:5
 lay-three-requires : tie.Need-lay-three-requires
 lay-three-requires c κs = search needs
 
--- src/lib.rt:133:1
 same-length : tie.Need-same-length
 same-length c = search needs
 
--- src/lib.rt:133:1
 returns-2 : tie.Need-returns-2
 unfolding layout low
 returns-2 c =
-    let a = c .before .before .before .before .before .before .before .before .before .before .before .before .args in
-    let t = c .before .before .before .before .before .before .low32 .result in
+    let went = c .before .before .before .before .before .before in
+    let a = went .before .before .before .before .before .before .args in
+    let t = went .low32 .result in
     let m = parameters (a .number) (a .entries .now) (a .transfer) in
     let f : List ℕ = 20 ∷ a .number ∷ (a .entries .now ++ (0 ∷ getD t 0 0 ∷ getD t 1 0 ∷ getD t 2 0 ∷ getD t 3 0 ∷ [])) in
-    let e : f ≡ layout m = rw (c .before .before .before .before .before .before .low32 .ensures) in
-    let all : whole (walk Kind (a .entries .now)) ≡ true = sym (c .before .before .before .before .before .before .before .before .whole .ensures ∙ ap whole (c .before .before .before .before .before .before .before .before .before .walk .ensures)) ∙ not-false _ (c .before .before .before .before .before .before .before .if1 .left) in
+    let e : f ≡ layout m = rw (went .low32 .ensures) in
+    let all : whole (walk Kind (a .entries .now)) ≡ true = sym (went .before .before .whole .ensures ∙ ap whole (went .before .before .before .walk .ensures)) ∙ not-false _ (went .before .if1 .left) in
     wrote m (a .out .now) f (c .before .before .lay-three .ensures) e all
 
 pub parameters-spec : {M : Type 1} → statement M
