@@ -1,0 +1,1 @@
+// The shape of every call of an end: definitions and laws (specs/).
