@@ -1,5 +1,5 @@
--- Image files (paper 01, 'Image file'): the fields, the refusals in their order, the segments, and what `check` and `segment` answer.
--- A `Trailer`, a `Region` and the two answers are the code's own types.
+-- Image files (paper 01, 'Image file'): the fields, the refusals in their order, the segments, and what each call answers.
+-- A `Trailer`, a `Region` and the answers are the code's own types.
 use Prim.Native.Nat.{ℕ, zero, suc, _+_, _-_, _*_, _/_, min}
 use mathlib.Core.Bool.{Bool, true, false, cond as pick}
 use mathlib.Core.List.{List, [], _∷_}
@@ -8,10 +8,9 @@ use lib.Dec.{eqb, leb, ltb}
 use Rattle.octets.specs.Number.{number}
 use Rattle.image.specs.declared.Trailer.{Trailer}
 use Rattle.image.specs.declared.Region.{Region}
-use Rattle.image.specs.declared.Checked.{Checked}
-use Rattle.image.specs.declared.Checked.the-variants as checked-is
-use Rattle.image.specs.declared.Found.{Found}
-use Rattle.image.specs.declared.Found.the-variants as found-is
+use Rattle.image.specs.declared.Tally.{Tally}
+use Rattle.image.specs.declared.Image.{Image}
+use Rattle.image.specs.declared.Segment.{Segment}
 
 -- the most bytes of a file
 abbrev pub longest : ℕ
@@ -146,31 +145,49 @@ segment S [] i = nowhere
 segment S (r ∷ rs) i = pick (ltb i (parts S r)) (cut S r i) (segment S rs (i - parts S r))
 
 -- What a segment lays into memory.
-pub record Segment : Type 0 where
+pub record Piece : Type 0 where
   pub address : ℕ
   pub bytes : List ℕ
 
-abbrev pub segmentOf : List ℕ → ℕ → ℕ → Segment
+abbrev pub segmentOf : List ℕ → ℕ → ℕ → Piece
 segmentOf file S i =
     record { address = segment S (regions file) i .address; bytes = bytes file (segment S (regions file) i) }
 
--- ---- answers
+-- ---- answers, all numbers 0 where refused
+abbrev pub noTally : ℕ → Tally
+noTally n = record { refusal = n; regions = 0; transfer = 0; segments = 0; segment = nowhere }
+
+-- refusal n; if it is 0, what the trailer says, the number of segments of S bytes, and segment i, nowhere if there is none
+abbrev pub tallied : ℕ → Trailer → ℕ → ℕ → List Region → Tally
+tallied n t S i rs =
+    pick (eqb n 0)
+    (record { refusal = 0; regions = t .count; transfer = t .transfer; segments = many S rs; segment = segment S rs i })
+    (noTally n)
+
+-- what `survey` answers
+abbrev pub surveyed : List ℕ → ℕ → ℕ → Tally
+surveyed file S i = tallied (cutRefusal file S) (trailer file) S i (regions file)
+
 -- what `check` answers
-abbrev pub checked : List ℕ → ℕ → Checked
+abbrev pub checked : List ℕ → ℕ → Image
 checked file S =
     pick (eqb (cutRefusal file S) 0)
-    (checked-is.Accepted (trailer file .count) (trailer file .transfer) (many S (regions file)))
-    (checked-is.Refused (cutRefusal file S))
+    (record { segments = many S (regions file); transfer = trailer file .transfer; regions = trailer file .count; refusal = 0 })
+    (record { segments = 0; transfer = 0; regions = 0; refusal = cutRefusal file S })
 
--- segment i of n, as the code tells it: the last is the one before n
-abbrev pub foundAs : ℕ → ℕ → Region → Found
-foundAs n i r = found-is.Segment (r .address) (r .place) (r .length) (eqb (i + 1) n)
+abbrev pub noSegment : ℕ → Segment
+noSegment n = record { at = 0; length = 0; address = 0; last = 0; refusal = n }
 
--- what `segment` answers: 10 for an index that is not below N comes last
-abbrev pub found : List ℕ → ℕ → ℕ → Found
+-- segment i of n: the last is the one before n
+abbrev pub foundAs : ℕ → ℕ → Region → Segment
+foundAs n i r =
+    record { at = r .place; length = r .length; address = r .address; last = pick (eqb (i + 1) n) 1 0; refusal = 0 }
+
+-- what `find` answers: 10 for an index that is not below N comes last
+abbrev pub found : List ℕ → ℕ → ℕ → Segment
 found file S i =
     pick (eqb (cutRefusal file S) 0)
     (pick (ltb i (many S (regions file)))
     (foundAs (many S (regions file)) i (segment S (regions file) i))
-    (found-is.Refused 10))
-    (found-is.Refused (cutRefusal file S))
+    (noSegment 10))
+    (noSegment (cutRefusal file S))

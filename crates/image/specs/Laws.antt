@@ -1,24 +1,24 @@
 -- Laws of image files: what an accepted file's regions and segments are, and what is answered.
-use Prim.Native.Nat.{ℕ, zero, suc, _+_, _-_, _*_, _^_, _≤_, _<_}
+use Prim.Native.Nat.{ℕ, zero, suc, _+_, _-_, _*_, _≤_, _<_}
 use mathlib.Core.Bool.{Bool, true, false, cond as pick}
-use mathlib.Core.Path.{_≡_, refl, ap}
+use mathlib.Core.Path.{_≡_, refl, sym, ap, _∙_}
 use mathlib.Core.List.{List, [], _∷_}
-use native.Mathlib.Nat.{zero-add, add-assoc, add-sub-cancel-left, lt-of-lt-of-le, pow-le-pow-right}
+use native.Mathlib.Nat.{zero-add, add-assoc, add-sub-cancel-left}
 use native.Mathlib.Omega.{arith}
 use lib.Dec.{eqb, ltb}
-use lib.ListN.{length, getD, take, drop, length-take, length-drop}
-use lib.Seq.{getD-take, getD-drop, drop-drop}
+use lib.ListN.{length, getD, take}
+use lib.Seq.{drop-drop}
 use borrow.Author.Tests.{ltb-true, ltb-false, leb-true, eqb-true, eqb-false, lt-ltb, le-ltb, eq-eqb, ne-eqb}
+use Rattle.octets.specs.Cases.{by-cases}
 use Rattle.octets.specs.Number.{Octets, part-bound}
-use Rattle.image.specs.Image.{longest, most, addresses, widest, word, trailerOf, trailer, entryAt, entries, regions, ending, bytes, nowhere}
+use Rattle.image.specs.Image.{longest, most, addresses, widest, trailerOf, trailer, entryAt, entries, regions, ending, bytes, nowhere}
 use Rattle.image.specs.Image.{demand, first, trailerRefusal, entryRefusal, entriesRefusal, cutRefusal}
-use Rattle.image.specs.Image.{parts, cut, many, segment, segmentOf, checked, foundAs, found}
+use Rattle.image.specs.Image.{parts, cut, many, segment, segmentOf, noTally, surveyed, checked, noSegment, foundAs, found}
 use Rattle.image.specs.Parts.{parts-some, parts-bound, part-begins, length-bytes}
 use Rattle.image.specs.declared.Trailer.{Trailer}
 use Rattle.image.specs.declared.Region.{Region}
-use Rattle.image.specs.declared.Checked.{Checked}
-use Rattle.image.specs.declared.Checked.the-variants as checked-is
-use Rattle.image.specs.declared.Found.the-variants as found-is
+use Rattle.image.specs.declared.Tally.{Tally}
+use Rattle.image.specs.declared.Image.{Image}
 
 -- ---- refusal 0: every demand is met
 met : (b : Bool) (n after : ℕ) → demand b n after ≡ 0 → 0 < n → (b ≡ true) × (after ≡ 0)
@@ -225,39 +225,58 @@ module _ (file : List ℕ) (S : ℕ) (h : cutRefusal file S ≡ 0) where
   length-segment i l = length-bytes file (segment S (regions file) i) (file-segment i l .within)
 
   -- the answers
-  pub checked-accepted : checked file S ≡ checked-is.Accepted (trailer file .count) (trailer file .transfer) (many S (regions file))
-  checked-accepted = simp (eq-eqb _ _ h)
-
   pub found-inside : (i : ℕ) → i < many S (regions file) → found file S i ≡ foundAs (many S (regions file)) i (segment S (regions file) i)
   found-inside i l = simp (eq-eqb _ _ h, lt-ltb _ _ l)
 
-  pub found-outside : (i : ℕ) → many S (regions file) ≤ i → found file S i ≡ found-is.Refused 10
+  pub found-outside : (i : ℕ) → many S (regions file) ≤ i → found file S i ≡ noSegment 10
   found-outside i l = simp (eq-eqb _ _ h, le-ltb _ _ l)
 
-module _ (file : List ℕ) (S : ℕ) (h : cutRefusal file S ≡ 0 → ⊥) where
-  pub checked-refused : checked file S ≡ checked-is.Refused (cutRefusal file S)
-  checked-refused = simp (ne-eqb _ _ h)
+pub found-refused : (file : List ℕ) (S i : ℕ) → (cutRefusal file S ≡ 0 → ⊥) → found file S i ≡ noSegment (cutRefusal file S)
+found-refused file S i h = simp (ne-eqb _ _ h)
 
-  pub found-refused : (i : ℕ) → found file S i ≡ found-is.Refused (cutRefusal file S)
-  found-refused i = simp (ne-eqb _ _ h)
+-- ---- a survey
+-- what `check` answers is any survey's
+abbrev pub imageOf : Tally → Image
+imageOf t = record { segments = t .segments; transfer = t .transfer; regions = t .regions; refusal = t .refusal }
 
--- an answer that accepts says that all is well, and gives the file's numbers
-pub record Agrees (file : List ℕ) (S count transfer n : ℕ) : Type 0 where
+-- a survey that accepts says that all is well, and gives the file's numbers
+pub record Agrees (file : List ℕ) (S i : ℕ) (a : Tally) : Type 0 where
   pub none : cutRefusal file S ≡ 0
-  pub counted : count ≡ trailer file .count
-  pub started : transfer ≡ trailer file .transfer
-  pub numbered : n ≡ many S (regions file)
+  pub started : a .transfer ≡ trailer file .transfer
+  pub numbered : a .segments ≡ many S (regions file)
+  pub reached : a .segment ≡ segment S (regions file) i
 
-pub agrees : (file : List ℕ) (S count transfer n : ℕ) → checked file S ≡ checked-is.Accepted count transfer n → Agrees file S count transfer n
-agrees file S count transfer n h = go (eqb (cutRefusal file S) 0) refl h
-  where
-    whole : Checked
-    whole = checked-is.Accepted (trailer file .count) (trailer file .transfer) (many S (regions file))
+module _ (file : List ℕ) (S i : ℕ) where
+  whole : Tally
+  whole =
+      record {
+        refusal = 0;
+        regions = trailer file .count;
+        transfer = trailer file .transfer;
+        segments = many S (regions file);
+        segment = segment S (regions file) i;
+      }
 
-    go : (b : Bool) → eqb (cutRefusal file S) 0 ≡ b → pick b whole (checked-is.Refused (cutRefusal file S)) ≡ checked-is.Accepted count transfer n
-        → Agrees file S count transfer n
-    go true e g = record { none = eqb-true _ _ e; counted = cc; started = cc; numbered = cc }
-    go false e g = let z : _≡_ {A = ℕ} 0 1 = cc in absurd (omega arith)
+  pub checked-survey : imageOf (surveyed file S i) ≡ checked file S
+  unfolding whole
+  checked-survey = go (eqb (cutRefusal file S) 0)
+    where
+      go : (b : Bool) → imageOf (pick b whole (noTally (cutRefusal file S))) ≡ pick b (imageOf whole) (imageOf (noTally (cutRefusal file S)))
+      go true = refl
+      go false = refl
+
+  module _ {a : Tally} (e : a ≡ surveyed file S i) where
+    pub survey-refusal : a .refusal ≡ cutRefusal file S
+    survey-refusal =
+        rw e
+        (by-cases (λ (t : Tally). t .refusal ≡ cutRefusal file S) (eqb (cutRefusal file S) 0) (λ b. sym (eqb-true _ _ b)) (λ _. refl))
+
+    pub agrees : a .refusal ≡ 0 → Agrees file S i a
+    unfolding whole
+    agrees z =
+        let none = sym survey-refusal ∙ z in
+        let same : a ≡ whole = rw (eq-eqb _ _ none) at e in
+        rw same (record { none = none; started = refl; numbered = refl; reached = refl })
 
 -- ---- a file of bytes
 pub transfer-bound : (file : List ℕ) → Octets file → trailer file .transfer < addresses

@@ -1,23 +1,36 @@
--- What the walk over the directory answers.
-use Prim.Native.Nat.{ℕ, _<_}
-use mathlib.Core.Path.{_≡_, _∙_}
+-- The walk over the directory: what it answers, and how it keeps the place of the segment looked for.
+use Prim.Native.Nat.{ℕ, _+_, _-_, _≤_, _<_}
+use mathlib.Core.Bool.{cond as pick}
 use mathlib.Core.List.{List}
-use Rattle.image.specs.Image.{entries, entriesRefusal, many, segment}
+use lib.ListN.{length}
+use lib.Dec.{leb, ltb}
+use Rattle.image.specs.Image.{addresses, entryAt, entries, entriesRefusal, ending, nowhere, parts, cut, tallied}
+use Rattle.image.specs.declared.Trailer.{Trailer}
 use Rattle.image.specs.declared.Region.{Region}
+use Rattle.image.specs.declared.Reach.{Reach}
 use Rattle.image.specs.declared.Tally.{Tally}
 
--- Refusal n; if it is 0, the number of segments of S bytes, and segment i if there is one.
-pub record Tallied (n S i : ℕ) (rs : List Region) (t : Tally) : Type 0 where
-  pub refused : t .refusal ≡ n
-  pub counted : n ≡ 0 → t .many ≡ many S rs
-  pub reached : n ≡ 0 → i < many S rs → t .segment ≡ segment S rs i
+-- the entries that a trailer points at
+abbrev pub walked : List ℕ → Trailer → ℕ → ℕ → Tally
+walked file t S i =
+    let rs = entries file (t .directory) (t .count) in
+    tallied (entriesRefusal (t .directory) 0 rs) t S i rs
 
--- the walk over n entries from a place on, which is the directory's start too
-abbrev pub Walked : List ℕ → ℕ → ℕ → ℕ → ℕ → Tally → Type 0
-Walked file directory n S i t =
-    Tallied (entriesRefusal directory 0 (entries file directory n)) S i (entries file directory n) t
+-- once a region is passed whose entry is at a place and whose first segment has the index m, i being looked for
+abbrev pub reaching : Reach → ℕ → ℕ → ℕ → Reach
+reaching x at m i = pick (leb m i) (record { at = at; first = m }) x
 
-pub refused-tally : (m n S i : ℕ) (rs : List Region) (t : Tally)
-    → t .refusal ≡ m → (m ≡ 0 → ⊥) → m ≡ n → Tallied n S i rs t
-refused-tally m n S i rs t e ne f =
-    record { refused = e ∙ f; counted = λ z. absurd (ne (f ∙ z)); reached = λ z l. absurd (ne (f ∙ z)) }
+-- the region reached, and the segment looked for, of n
+abbrev pub region : List ℕ → Reach → Region
+region file x = entryAt file (x .at)
+
+abbrev pub partOf : List ℕ → ℕ → Reach → ℕ → ℕ → Region
+partOf file S x n i = pick (ltb i n) (cut S (region file x) (i - x .first)) nowhere
+
+-- segment i is a part of the region reached, whose entry stands in the file, and whose bytes and addresses are in range
+pub record Reached (file : List ℕ) (S i : ℕ) (x : Reach) : Type 0 where
+  pub entry : x .at + 12 ≤ length file
+  pub begun : x .first ≤ i
+  pub inside : i < x .first + parts S (region file x)
+  pub within : region file x .place + region file x .length ≤ addresses
+  pub below : ending (region file x) ≤ addresses

@@ -1,12 +1,11 @@
 // Image files: checked whole, and cut into segments (paper 01, 'Image file').
 ghost use mathlib.Core.Path.{_≡_};
-ghost use Prim.Native.Nat.{_+_, _-_, _*_, _<_, _≤_, min};
+ghost use Prim.Native.Nat.{_+_, _*_, _<_, _≤_};
 ghost use lib.ListN.{length};
-ghost use lib.Dec.{ltb};
 ghost use mathlib.Core.Bool.{cond as pick};
-ghost use Rattle.image.specs.Image.{addresses, trailer, entryAt, regions, ending, nowhere};
-ghost use Rattle.image.specs.Image.{trailerRefusal, entryRefusal, cutRefusal, parts, cut, checked, found};
-ghost use Rattle.image.specs.Walk.{Tallied, Walked};
+ghost use Rattle.image.specs.Image.{addresses, trailer, entryAt, ending, nowhere, trailerRefusal, entryRefusal, parts, cut};
+ghost use Rattle.image.specs.Image.{noTally, surveyed, checked, noSegment, found};
+ghost use Rattle.image.specs.Walk.{Reached, reaching, partOf, walked};
 
 // The most bytes of a file.
 const LONGEST: usize = 16777216;
@@ -15,10 +14,10 @@ const LONGEST: usize = 16777216;
 const MOST: u16 = 64;
 
 // The number of addresses.
-const ADDRESSES: u64 = 4294967296;
+pub const ADDRESSES: u64 = 4294967296;
 
 // The most bytes of a segment.
-const WIDEST: u32 = 1490;
+pub const WIDEST: u32 = 1490;
 
 // The trailer's fields.
 pub struct Trailer {
@@ -36,36 +35,41 @@ pub struct Region {
     pub length: u32,
 }
 
-// How a file is cut into segments.
-pub enum Checked {
-    // The number of regions, the transfer address, the number of segments.
-    Accepted {
-        count: u16,
-        transfer: u32,
-        many: u64,
-    },
-    // A refusal, by paper 01's number.
-    Refused(u8),
+// How a file is cut into segments, or its refusal, by paper 01's number: mop_image of the header.
+#[repr(C)]
+pub struct Image {
+    pub segments: u64,
+    pub transfer: u32,
+    pub regions: u16,
+    pub refusal: u8,
 }
 
-// Where a segment is.
-pub enum Found {
-    // Its memory address, where its bytes stand in the file and how many they are, and whether it is the last.
-    Segment {
-        address: u32,
-        at: usize,
-        length: usize,
-        last: bool,
-    },
-    // A refusal, by paper 01's number.
-    Refused(u8),
+// Where a segment's bytes stand in the file and how many they are, its memory address, and whether it is the last (1) or
+// not (0); or a refusal, by paper 01's number: mop_segment of the header.
+#[repr(C)]
+pub struct Segment {
+    pub at: usize,
+    pub length: usize,
+    pub address: u32,
+    pub last: u8,
+    pub refusal: u8,
 }
 
-// What a walk over the directory finds: a refusal, or 0 with the number of segments and the segment looked for.
-struct Tally {
-    refusal: u8,
-    many: u64,
-    segment: Region,
+// What a walk over the directory finds: a refusal; or 0 with what the trailer says, the number of segments, and the
+// segment looked for.
+pub struct Tally {
+    pub refusal: u8,
+    pub regions: u16,
+    pub transfer: u32,
+    pub segments: u64,
+    pub segment: Region,
+}
+
+// The last region passed that begins no later than the segment looked for: the place of its entry, and the index of its
+// first segment.
+struct Reach {
+    at: usize,
+    first: u64,
 }
 
 // The trailer. Of a part whose length is known, the compiler reads each field with one load.
@@ -155,13 +159,10 @@ fn parts(size: u32, r: Region) -> u32
     requires { ⌜ (1 ≤ size) × (1 ≤ r .length) ⌝ }
     ensures { λ n. ⌜ n ≡ parts size r ⌝ }
 {
+    if r.length <= size {
+        return 1; // without a division
+    }
     (r.length - 1) / size + 1
-}
-
-fn least(a: u32, b: u32) -> u32
-    ensures { λ r. ⌜ r ≡ min a b ⌝ }
-{
-    if a < b { a } else { b }
 }
 
 // Part j of a region.
@@ -170,25 +171,12 @@ fn cut(size: u32, r: Region, j: u32) -> Region
     ensures { λ p. ⌜ p ≡ cut size r j ⌝ }
 {
     let skip = j * size;
+    let rest = r.length - skip;
     Region {
         address: r.address + skip,
         place: r.place + skip,
-        length: least(size, r.length - skip),
+        length: octets::lesser(size as u64, rest as u64) as u32,
     }
-}
-
-// The segment looked for, once a region is passed whose segments have the indices from `many` up to `next`.
-fn reached(size: u32, r: Region, many: u64, next: u64, index: u64, before: Region) -> Region
-    requires { ⌜ (1 ≤ size) × (next ≡ many + parts size r) × (r .place + r .length ≤ addresses) × (ending r ≤ addresses) ⌝ }
-    ensures { λ p. ⌜ p ≡ pick (ltb index many) before (pick (ltb index next) (cut size r (index - many)) before) ⌝ }
-{
-    if index < many {
-        return before;
-    }
-    if index < next {
-        return cut(size, r, (index - many) as u32);
-    }
-    before
 }
 
 fn no_region() -> Region
@@ -201,49 +189,74 @@ fn no_region() -> Region
     }
 }
 
+// Once a region is passed whose entry is at a place, and whose first segment has the index `first`.
+fn reached(before: Reach, at: usize, first: u64, index: u64) -> Reach
+    ensures { λ x. ⌜ x ≡ reaching before at first index ⌝ }
+{
+    if first <= index {
+        return Reach { at, first };
+    }
+    before
+}
+
+// The segment looked for, once all regions are passed.
+fn part(file: &[u8], size: u32, reach: Reach, segments: u64, index: u64) -> Region
+    requires { ⌜ (1 ≤ size) × (index < segments → Reached (now file) size index reach) ⌝ }
+    ensures { λ p. ⌜ p ≡ partOf (now (file .entry)) size reach segments index ⌝ }
+{
+    if segments <= index {
+        return no_region();
+    }
+    let r = read_entry(file, reach.at);
+    cut(size, r, (index - reach.first) as u32)
+}
+
 fn refused(n: u8) -> Tally
-    ensures { λ t. ⌜ t .refusal ≡ n ⌝ }
+    ensures { λ t. ⌜ t ≡ noTally n ⌝ }
 {
     Tally {
         refusal: n,
-        many: 0,
+        regions: 0,
+        transfer: 0,
+        segments: 0,
         segment: no_region(),
     }
 }
 
 // The directory's entries in turn: refusals 7 and 8, the number of segments, the segment of an index.
-fn walk(file: &[u8], directory: u32, count: u16, size: u32, index: u64) -> Tally
-    requires { ⌜ (directory + 12 * count ≤ length (now file)) × (1 ≤ size) ⌝ }
-    ensures { λ t. ⌜ Walked (now (file .entry)) directory count size index t ⌝ }
+fn walk(file: &[u8], t: Trailer, size: u32, index: u64) -> Tally
+    requires { ⌜ (t .directory + 12 * t .count ≤ length (now file)) × (1 ≤ size) ⌝ }
+    ensures { λ r. ⌜ r ≡ walked (now (file .entry)) t size index ⌝ }
 {
-    let mut segment = no_region();
-    let mut many: u64 = 0;
+    let mut reach = Reach { at: 0, first: 0 };
+    let mut segments: u64 = 0;
     let mut end: u64 = 0;
-    let mut at = directory as usize;
-    let mut left = count;
+    let mut at = t.directory as usize;
+    let mut left = t.count;
     while 0 < left {
         let r = read_entry(file, at);
-        let wrong = entry_refusal(directory, end, r);
+        let wrong = entry_refusal(t.directory, end, r);
         if wrong != 0 {
             return refused(wrong);
         }
-        let next = many + parts(size, r) as u64;
-        segment = reached(size, r, many, next, index, segment);
-        many = next;
+        reach = reached(reach, at, segments, index);
+        segments += parts(size, r) as u64;
         end = r.address as u64 + r.length as u64;
         at += 12;
         left -= 1;
     }
     Tally {
         refusal: 0,
-        many,
-        segment,
+        regions: t.count,
+        transfer: t.transfer,
+        segments,
+        segment: part(file, size, reach, segments, index),
     }
 }
 
-// The refusal of a segment size or a file, or 0 with the number of segments and the segment of an index.
-fn survey(file: &[u8], size: u32, index: u64) -> Tally
-    ensures { λ a. ⌜ Tallied (cutRefusal (now (file .entry)) size) size index (regions (now (file .entry))) a ⌝ }
+// One walk: the refusal of a segment size or a file, or 0 with the number of segments and the segment of an index.
+pub fn survey(file: &[u8], size: u32, index: u64) -> Tally
+    ensures { λ r. ⌜ r ≡ surveyed (now (file .entry)) size index ⌝ }
 {
     if size < 1 {
         return refused(10);
@@ -259,41 +272,57 @@ fn survey(file: &[u8], size: u32, index: u64) -> Tally
     if wrong != 0 {
         return refused(wrong);
     }
-    walk(file, t.directory, t.count, size, index)
+    walk(file, t, size, index)
 }
 
 // Whether a file is an image, and how it is cut into segments of `size` bytes.
-pub fn check(file: &[u8], size: u32) -> Checked
+pub fn check(file: &[u8], size: u32) -> Image
     ensures { λ r. ⌜ r ≡ checked (now (file .entry)) size ⌝ }
 {
     let a = survey(file, size, 0);
-    if a.refusal != 0 {
-        return Checked::Refused(a.refusal);
+    Image {
+        segments: a.segments,
+        transfer: a.transfer,
+        regions: a.regions,
+        refusal: a.refusal,
     }
-    let t = read_trailer(file);
-    Checked::Accepted {
-        count: t.count,
-        transfer: t.transfer,
-        many: a.many,
+}
+
+fn flag(b: bool) -> u8
+    ensures { λ r. ⌜ r ≡ pick b 1 0 ⌝ }
+{
+    if b { 1 } else { 0 }
+}
+
+fn no_segment(refusal: u8) -> Segment
+    ensures { λ r. ⌜ r ≡ noSegment refusal ⌝ }
+{
+    Segment {
+        at: 0,
+        length: 0,
+        address: 0,
+        last: 0,
+        refusal,
     }
 }
 
 // Segment `index`, counted from 0, of a file cut into segments of `size` bytes.
-pub fn segment(file: &[u8], size: u32, index: u64) -> Found
+pub fn find(file: &[u8], size: u32, index: u64) -> Segment
     ensures { λ r. ⌜ r ≡ found (now (file .entry)) size index ⌝ }
 {
     let a = survey(file, size, index);
     if a.refusal != 0 {
-        return Found::Refused(a.refusal);
+        return no_segment(a.refusal);
     }
-    if a.many <= index {
-        return Found::Refused(10);
+    if a.segments <= index {
+        return no_segment(10);
     }
     let s = a.segment;
-    Found::Segment {
-        address: s.address,
+    Segment {
         at: s.place as usize,
         length: s.length as usize,
-        last: index + 1 == a.many,
+        address: s.address,
+        last: flag(index + 1 == a.segments),
+        refusal: 0,
     }
 }

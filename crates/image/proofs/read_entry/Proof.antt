@@ -31,7 +31,8 @@ word32-requires-3 c κs = search needs
 returns : tie.Need-returns
 unfolding entryOf
 returns c =
-    let size : _≡_ {A = ℕ} (c .before .before .before .before .before .args .at + 12 - c .before .before .before .before .before .args .at) 12 = omega arith in
+    let went = c .before .before .before .before .before in
+    let size : _≡_ {A = ℕ} (went .args .at + 12 - went .args .at) 12 = omega arith in
     simp (c .before .before .word32 .ensures, c .before .word322 .ensures, c .word323 .ensures, size)
 
 pub read-entry-spec : {M : Type 1} → statement M

@@ -6,14 +6,18 @@ use native.Mathlib.Omega.{arith}
 use lib.ListN.{length}
 use borrow.Author.Needs.{needs}
 use borrow.Author.Tests.{le-leb, lt-leb, eq-eqb, ne-eqb}
-use Rattle.image.specs.Image.{widest, trailer, regions, demand, trailerRefusal, cutRefusal}
+use Rattle.image.specs.Image.{widest, trailer, demand, trailerRefusal, cutRefusal, noTally, surveyed}
 use Rattle.image.specs.Laws.{placed}
-use Rattle.image.specs.Walk.{Tallied, Walked, refused-tally}
+use Rattle.image.specs.Walk.{walked}
 use Rattle.image.specs.declared.Trailer.{Trailer}
 use Rattle.image.specs.declared.Tally.{Tally}
 use Rattle.image.proofs.Demand.{demands}
 use Rattle.image.proofs.survey.Statement.{statement}
 use Rattle.image.proofs.survey.Tie as tie
+
+-- refused by a number
+refusing : (file : List ℕ) (S i n : ℕ) {a : Tally} → a ≡ noTally n → (n ≡ 0 → ⊥) → n ≡ cutRefusal file S → a ≡ surveyed file S i
+refusing file S i n e ne w = rw (← w, ne-eqb n 0 ne) e
 
 -- the size of segments is accepted
 module _ (file : List ℕ) (S : ℕ) (l : 1 ≤ S) (m : S ≤ widest) where
@@ -30,7 +34,7 @@ module _ (file : List ℕ) (S : ℕ) (l : 1 ≤ S) (m : S ≤ widest) where
 
   -- the trailer is accepted, so that the entries decide
   in-entries : (t : Trailer) (i : ℕ) (a : Tally) → t ≡ trailer file → trailerRefusal (length file) t ≡ 0
-      → Walked file (t .directory) (t .count) S i a → Tallied (cutRefusal file S) S i (regions file) a
+      → a ≡ walked file t S i → a ≡ surveyed file S i
   unfolding demand
   in-entries t i a e w k = rw (← e, le-leb 1 S l, le-leb S widest m, eq-eqb (trailerRefusal (length file) t) 0 w) k
 
@@ -38,13 +42,17 @@ refused-requires : tie.Need-refused-requires
 refused-requires c κs = search needs
 
 returns : tie.Need-returns
-returns c = refused-tally _ _ _ _ _ _ (c .refused .ensures) (λ z. omega arith) (search demands)
+returns c =
+    let a = c .before .before .before .args in
+    refusing (a .file .now) (a .size) (a .index) 10 (c .refused .ensures) (λ z. omega arith) (search demands)
 
 refused-requires-2 : tie.Need-refused-requires-2
 refused-requires-2 c κs = search needs
 
 returns-2 : tie.Need-returns-2
-returns-2 c = refused-tally _ _ _ _ _ _ (c .refused2 .ensures) (λ z. omega arith) (search demands)
+returns-2 c =
+    let a = c .before .before .before .before .args in
+    refusing (a .file .now) (a .size) (a .index) 10 (c .refused2 .ensures) (λ z. omega arith) (search demands)
 
 refused-requires-3 : tie.Need-refused-requires-3
 refused-requires-3 c κs = search needs
@@ -52,7 +60,7 @@ refused-requires-3 c κs = search needs
 returns-3 : tie.Need-returns-3
 returns-3 c =
     let a = c .before .before .before .before .before .args in
-    refused-tally _ _ _ _ _ _ (c .refused3 .ensures) (λ z. omega arith)
+    refusing (a .file .now) (a .size) (a .index) 5 (c .refused3 .ensures) (λ z. omega arith)
     (short (a .file .now) (a .size) (c .before .before .before .if1 .left) (c .before .before .if2 .left) (c .before .if3 .taken))
 
 read-trailer-requires : tie.Need-read-trailer-requires
@@ -66,20 +74,28 @@ refused-requires-4 c κs = search needs
 
 returns-4 : tie.Need-returns-4
 returns-4 c =
-    let a = c .before .before .before .before .before .before .before .before .args in
-    refused-tally _ _ _ _ _ _ (c .refused4 .ensures) (c .before .if4 .taken)
-    (in-trailer (a .file .now) (a .size) (c .before .before .before .before .before .before .if1 .left) (c .before .before .before .before .before .if2 .left) _ _ (c .before .before .before .read-trailer .ensures) (c .before .before .trailer-refusal .ensures) (c .before .if4 .taken))
+    let read = c .before .before .before in
+    let sized = read .before .before .before in
+    let a = sized .before .before .args in
+    let ne = c .before .if4 .taken in
+    refusing (a .file .now) (a .size) (a .index) _ (c .refused4 .ensures) ne
+    (in-trailer (a .file .now) (a .size) (sized .if1 .left) (read .before .before .if2 .left) _ _ (read .read-trailer .ensures) (c .before .before .trailer-refusal .ensures) ne)
 
 walk-requires : tie.Need-walk-requires
 walk-requires c κs =
-    let t = c .before .before .read-trailer .result in
-    let p = placed (length (c .before .before .before .before .before .before .before .args .file .now)) t (sym (c .before .trailer-refusal .ensures) ∙ c .if4 .left) in
-    (omega arith, c .before .before .before .before .before .if1 .left)
+    let read = c .before .before in
+    let sized = read .before .before .before in
+    let a = sized .before .before .args in
+    let p = placed (length (a .file .now)) (read .read-trailer .result) (sym (c .before .trailer-refusal .ensures) ∙ c .if4 .left) in
+    (omega arith, sized .if1 .left)
 
 returns-5 : tie.Need-returns-5
 returns-5 c =
-    let a = c .before .before .before .before .before .before .before .before .args in
-    in-entries (a .file .now) (a .size) (c .before .before .before .before .before .before .if1 .left) (c .before .before .before .before .before .if2 .left) _ _ _ (c .before .before .before .read-trailer .ensures) (sym (c .before .before .trailer-refusal .ensures) ∙ c .before .if4 .left) (c .walk .ensures)
+    let read = c .before .before .before in
+    let sized = read .before .before .before in
+    let a = sized .before .before .args in
+    in-entries (a .file .now) (a .size) (sized .if1 .left) (read .before .before .if2 .left) _ _ _ (read .read-trailer .ensures)
+    (sym (c .before .before .trailer-refusal .ensures) ∙ c .before .if4 .left) (c .walk .ensures)
 
 pub survey-spec : {M : Type 1} → statement M
 survey-spec =

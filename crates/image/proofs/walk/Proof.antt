@@ -3,44 +3,44 @@ use Prim.Native.Nat.{_+_, _*_, _≤_}
 use mathlib.Core.Path.{_≡_, refl, sym, _∙_}
 use native.Mathlib.Omega.{arith}
 use borrow.Author.Needs.{needs}
+use borrow.Author.Tests.{ne-eqb}
 use Rattle.image.specs.Image.{addresses, entries, parts}
 use Rattle.image.specs.Laws.{Fit, fit}
 use Rattle.image.specs.Parts.{parts-bound}
-use Rattle.image.specs.Walk.{refused-tally}
 use Rattle.image.proofs.walk.Statement.{statement}
 use Rattle.image.proofs.walk.Tie as tie
 mod Turns
 use Turns.{Rest, start, turn, stop, done}
 
 abbrev Inv-loop : tie.InvT-loop
-Inv-loop file directory count size index segment₀ many₀ end₀ at₀ left₀ segment many end at left =
-    (at + 12 * left ≡ directory + 12 * count) ×
-    (many ≤ end) ×
+Inv-loop file t size index reach₀ segments₀ end₀ at₀ left₀ reach segments end at left =
+    (at + 12 * left ≡ t .directory + 12 * t .count) ×
+    (segments ≤ end) ×
     (end ≤ addresses) ×
-    Rest directory size index end many segment (entries file at left) (entries file directory count)
+    Rest file (t .directory) size index end segments reach (entries file at left) (entries file (t .directory) (t .count))
 
 abbrev μ-loop : tie.MeasureT-loop
-μ-loop file directory count size index segment₀ many₀ end₀ at₀ left₀ segment many end at left = left
+μ-loop file t size index reach₀ segments₀ end₀ at₀ left₀ reach segments end at left = left
 
 -- the entry read is accepted
 fits : (c : tie.Else1 Inv-loop μ-loop)
     → Fit
-    (c .before .before .before .before .before .before .before .args .directory)
+    (c .before .before .before .before .before .before .before .args .t .directory)
     (c .before .before .before .before .loop .end)
     (c .before .before .read-entry .result)
 fits c = fit _ _ _ (sym (c .before .entry-refusal .ensures) ∙ c .if1 .left)
 
 -- it has no more parts than bytes
-few : (c : tie.After-parts Inv-loop μ-loop) → c .parts .result ≤ c .before .before .before .read-entry .result .length
+few : (c : tie.After-parts Inv-loop μ-loop) → c .parts .result ≤ c .before .before .before .before .read-entry .result .length
 few c =
-    let start = c .before .before .before .before .before .before .before .before in
-    rw (c .parts .ensures) (parts-bound (start .args .size) (c .before .before .before .read-entry .result) (start .pre .1))
+    let start = c .before .before .before .before .before .before .before .before .before in
+    rw (c .parts .ensures) (parts-bound (start .args .size) (c .before .before .before .before .read-entry .result) (start .pre .1))
 
-no-region-requires : tie.Need-no-region-requires Inv-loop μ-loop
-no-region-requires c κs = search needs
+cast-at : tie.Need-cast-at Inv-loop μ-loop
+cast-at c = search needs
 
 loop-holds : tie.Need-loop-holds Inv-loop μ-loop
-loop-holds c = (refl, omega arith, omega arith, start _ _ _ _ _)
+loop-holds c = (refl, omega arith, omega arith, start _ _ _ _ _ _)
 
 read-entry-requires : tie.Need-read-entry-requires Inv-loop μ-loop
 read-entry-requires c κs = omega arith
@@ -56,28 +56,28 @@ returns c =
     let turn = c .before .before .before .before in
     let loop = turn .before .loop in
     let wrong = c .before .before .entry-refusal .ensures in
-    let found = stop _ _ _ _ _ _ (loop .at) (loop .left) _ _ _ (c .before .before .before .read-entry .ensures) (turn .loop-test .taken) (loop .inv .3) in
-    refused-tally _ _ _ _ _ _ (c .refused .ensures) (c .before .if1 .taken) (wrong ∙ found (λ z. c .before .if1 .taken (wrong ∙ z)))
-
-parts-requires : tie.Need-parts-requires Inv-loop μ-loop
-parts-requires c κs = (c .before .before .before .before .before .before .before .pre .1, fits c .some)
-
-cast-next : tie.Need-cast-next Inv-loop μ-loop
-cast-next c = omega (arith, few c, fits (c .before))
-
-add-next : tie.Need-add-next Inv-loop μ-loop
-add-next c = omega (arith, few c, fits (c .before))
+    let ne = c .before .if1 .taken in
+    let found = stop _ _ _ _ _ _ (loop .at) (loop .left) _ _ (turn .loop-test .taken) (loop .inv .3) _ (c .before .before .before .read-entry .ensures) in
+    let refusal = wrong ∙ found (λ z. ne (wrong ∙ z)) in
+    rw (← refusal, ne-eqb _ _ ne) (c .refused .ensures)
 
 reached-requires : tie.Need-reached-requires Inv-loop μ-loop
-reached-requires c κs =
-    let f = fits (c .before) in
-    (c .before .before .before .before .before .before .before .before .pre .1, omega (arith, c .parts .ensures), omega arith, f .below)
+reached-requires c κs = search needs
+
+parts-requires : tie.Need-parts-requires Inv-loop μ-loop
+parts-requires c κs = (c .before .before .before .before .before .before .before .before .pre .1, fits (c .before) .some)
+
+cast-segments : tie.Need-cast-segments Inv-loop μ-loop
+cast-segments c = search needs
+
+add-segments : tie.Need-add-segments Inv-loop μ-loop
+add-segments c = omega (arith, few c, fits (c .before .before))
 
 cast-end : tie.Need-cast-end Inv-loop μ-loop
-cast-end c = omega (arith, fits (c .before .before .before))
+cast-end c = search needs
 
 cast-end-2 : tie.Need-cast-end-2 Inv-loop μ-loop
-cast-end-2 c = omega (arith, fits (c .before .before .before .before))
+cast-end-2 c = search needs
 
 add-end : tie.Need-add-end Inv-loop μ-loop
 add-end c = omega (arith, fits (c .before .before .before .before))
@@ -97,17 +97,21 @@ loop-again c =
     let turn-start = passed .before .before .before in
     let loop = turn-start .before .loop in
     let f = fits passed in
-    let l = few (c .before .before .before) in (
+    let l = few (c .before .before) in (
       omega arith,
       omega arith,
       f .below,
-      turn _ _ _ _ _ _ (loop .at) (loop .left) _ _ _ (passed .before .before .read-entry .ensures) (turn-start .loop-test .taken) (loop .inv .3) _
-          (sym (passed .before .entry-refusal .ensures) ∙ passed .if1 .left) (omega (arith, c .before .before .before .parts .ensures)) _
-          (c .before .before .reached .ensures),
+      turn _ _ _ _ _ _ (loop .at) (loop .left) _ _ (turn-start .loop-test .taken) (loop .inv .3) _ (passed .before .before .read-entry .ensures) _
+          (sym (passed .before .entry-refusal .ensures) ∙ passed .if1 .left) (omega arith) (omega arith) (omega (arith, c .before .before .parts .ensures)) _
+          (c .before .before .before .reached .ensures),
     )
 
+part-requires : tie.Need-part-requires Inv-loop μ-loop
+part-requires c κs = (c .before .before .before .before .pre .1, c .before .loop .inv .3 .known)
+
 returns-2 : tie.Need-returns-2 Inv-loop μ-loop
-returns-2 c = done _ _ _ _ _ _ _ _ _ _ (c .loop-test .left) (c .before .loop .inv .3)
+returns-2 c =
+    done _ _ _ _ _ _ _ _ (c .before .before .before .before .before .args .t) _ _ _ (c .before .loop-test .left) (c .before .before .loop .inv .3) (c .part .ensures)
 
 pub walk-spec : {M : Type 1} → statement M
 walk-spec =
@@ -115,16 +119,16 @@ walk-spec =
     (tie.spec
     Inv-loop
     μ-loop
-    no-region-requires
+    cast-at
     loop-holds
     read-entry-requires
     entry-refusal-requires
     refused-requires
     returns
-    parts-requires
-    cast-next
-    add-next
     reached-requires
+    parts-requires
+    cast-segments
+    add-segments
     cast-end
     cast-end-2
     add-end
@@ -132,4 +136,5 @@ walk-spec =
     sub-left
     loop-less
     loop-again
+    part-requires
     returns-2)
