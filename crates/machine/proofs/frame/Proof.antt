@@ -1,76 +1,91 @@
+use mathlib.Core.Path.{sym, _∙_}
+use native.Mathlib.Omega.{arith}
+use lib.ListN.{length}
+use Rattle.octets.specs.Number.{Octets}
+use Rattle.message.specs.declared.Fields.{Fields}
+use Rattle.message.specs.Laws.{fields-inside}
+use Rattle.step.specs.Laws.{frame-call-refused, frame-refused, frame-accepted}
+use Rattle.machine_next.specs.Next.{react}
+use Rattle.machine_next.specs.Laws.{in-range}
+use Rattle.machine.specs.Laws.{decided-short, decided-leaves}
 use borrow.Author.Needs.{needs}
-use mathlib.Core.Path.{refl}
-use borrow.Author.Tests.{eq-eqb, ne-eqb}
-use Rattle.machine.specs.Laws.{refused-call, open-call, in-range}
 use Rattle.machine.proofs.frame.Statement.{statement}
 use Rattle.machine.proofs.frame.Tie as tie
-use Rattle.machine.proofs.frame.Reads as reads
-use Rattle.machine.proofs.frame.Lts as lts
-use Rattle.fields.proofs.read.Reads as read-reads
-use Rattle.machine.proofs.react.Reads as react-reads
-use Rattle.machine.proofs.refusal.Reads as refusal-reads
-use Rattle.machine.proofs.unsent.Reads as unsent-reads
 
--- src/lib.rt:344:9
 refusal-requires : tie.Need-refusal-requires
 refusal-requires c κs = search needs
 
--- src/lib.rt:346:9
-unsent-requires : tie.Need-unsent-requires
-unsent-requires c κs = search needs
+refused-requires : tie.Need-refused-requires
+refused-requires c κs = search needs
 
--- src/lib.rt:346:9
 returns : tie.Need-returns
-returns c = let a = c .before .before .before .before .before .before .args in
-    refused-call (a .settings) (a .machine) (a .memory .now) (a .reply .now) (c .before .before .refusal .ensures) (c .before .if1 .taken) _ (c .unsent .ensures .0) (c .unsent .ensures .1)
+returns c =
+    let a = c .before .before .before .before .before .before .args in
+    let l = frame-call-refused (c .before .before .refusal .result) (a .frame .now) (a .machine) (a .memory .now) (a .reply .now) (λ (f : Fields). react (a .settings) (a .machine) f (a .frame .now) (a .memory .now)) (c .before .if1 .taken) in
+    rw (← c .before .before .refusal .ensures) (c .refused .ensures .0 ∙ l .0, c .refused .ensures .1 ∙ l .1, l .2, l .3)
 
--- src/lib.rt:348:9
 read-requires : tie.Need-read-requires
 read-requires c κs = search needs
 
--- src/lib.rt:350:9
-unsent-requires-2 : tie.Need-unsent-requires-2
-unsent-requires-2 c κs = search needs
+refused-requires-2 : tie.Need-refused-requires-2
+refused-requires-2 c κs = search needs
 
--- src/lib.rt:350:9
 returns-2 : tie.Need-returns-2
-returns-2 c = let a = c .before .before .before .before .before .before .before .before .before .args in
-    let go = open-call (a .settings) (a .machine) (a .memory .now) (a .reply .now) (c .before .before .before .before .before .refusal .ensures) (c .before .before .before .before .if1 .left) in
-    let reads = rw (ne-eqb _ _ (c .before .if2 .taken)) at (c .before .before .before .read .ensures .says) in
-    rw (go .0, go .1, ← reads) (c .unsent2 .ensures .0, c .unsent2 .ensures .1, refl, refl)
+returns-2 c =
+    let went = c .before .before .before .before .before in
+    let a = went .before .before .before .before .args in
+    let some = rw (c .before .before .before .read .ensures) at (c .before .if2 .taken) in
+    let l = frame-refused (went .refusal .result) (a .frame .now) (a .machine) (a .memory .now) (a .reply .now) (λ (f : Fields). react (a .settings) (a .machine) f (a .frame .now) (a .memory .now)) (c .before .before .before .before .if1 .left) some in
+    let r = rw (c .before .before .before .read .ensures) at (c .refused2 .ensures) in
+    rw (← went .refusal .ensures) (r .0 ∙ l .0, r .1 ∙ l .1, l .2, l .3)
 
--- src/lib.rt:352:5
 react-requires : tie.Need-react-requires
-react-requires c κs = let a = c .before .before .before .before .before .before .before .before .before .before .args in
-    let range = in-range (a .settings) (a .machine) (a .memory .now) (a .reply .now) (c .before .before .before .before .before .before .refusal .ensures) (c .before .before .before .before .before .if1 .left) in
-    (c .before .before .before .before .read .ensures, (c .before .before .if2 .left, (range .1, range .2)))
+react-requires c κs = search needs
 
--- src/lib.rt:335:1
+send-requires : tie.Need-send-requires
+send-requires c κs =
+    let k = c .before .before .before .before .before in
+    let a = k .before .before .before .before .before .before .args in
+    let range = in-range (a .settings) (a .machine) (length (a .memory .now)) (length (a .reply .now)) (sym (k .before .before .refusal .ensures) ∙ k .before .if1 .left) in
+    let octets : Octets (a .frame .now) = λ i l. omega (arith, k .before .before .before .before .before .shared-slice-known .given i) in
+    let short = decided-short (a .settings) (a .machine) (a .frame .now) (a .memory .now) (a .reply .now) (k .read .result) (c .before .before .react .result) (k .read .ensures) (c .before .before .react .ensures) octets (c .before .before .before .if2 .left) (range .1) in
+    (rw (k .read .ensures) (fields-inside (a .frame .now)), (short, range .2))
+
+store-requires : tie.Need-store-requires
+store-requires c κs =
+    let k = c .before .before .before .before .before .before .before .before .before in
+    rw (k .read .ensures) (fields-inside (k .before .before .before .before .before .before .args .frame .now))
+
 same-length : tie.Need-same-length
 same-length c = search needs
 
--- src/lib.rt:335:1
 same-length-2 : tie.Need-same-length-2
 same-length-2 c = search needs
 
--- src/lib.rt:335:1
 returns-3 : tie.Need-returns-3
-returns-3 c = let a = c .before .before .before .before .before .before .before .before .before .before .before .before .before .before .before .args in
-    let go = open-call (a .settings) (a .machine) (a .memory .now) (a .reply .now) (c .before .before .before .before .before .before .before .before .before .before .before .refusal .ensures) (c .before .before .before .before .before .before .before .before .before .before .if1 .left) in
-    let reads = rw (eq-eqb _ _ (c .before .before .before .before .before .before .before .if2 .left)) at (c .before .before .before .before .before .before .before .before .before .read .ensures .says) in
-    rw (go .0, go .1, ← reads) (c .before .before .before .before .react .ensures)
+returns-3 c =
+    let went = c .before .before .before .before .before .before in
+    let k = went .before .before .before .before .before .before in
+    let a = k .before .before .before .before .before .before .args in
+    let next = went .before .before .before .react in
+    let l = decided-leaves (a .settings) (a .machine) (a .frame .now) (a .memory .now) (a .reply .now) (k .read .result) (next .result) (k .read .ensures) (next .ensures) (went .send .ensures) (c .before .before .store .ensures) in
+    let none = rw (k .read .ensures) at (went .before .before .before .before .if2 .left) in
+    rw (← k .before .before .refusal .ensures)
+    (frame-accepted (k .before .before .refusal .result) (a .frame .now) (a .machine) (a .memory .now) (a .reply .now) (λ (f : Fields). react (a .settings) (a .machine) f (a .frame .now) (a .memory .now)) (k .before .if1 .left) none l)
 
 pub frame-spec : {M : Type 1} → statement M
 frame-spec =
     tie.close
     (tie.spec
     refusal-requires
-    unsent-requires
+    refused-requires
     returns
     read-requires
-    unsent-requires-2
+    refused-requires-2
     returns-2
     react-requires
+    send-requires
+    store-requires
     same-length
     same-length-2
     returns-3)

@@ -1,0 +1,67 @@
+-- A load decided in numbers is what the machine does with it; what a call that is not refused may rely on.
+use Prim.Native.Nat.{ℕ, zero, suc}
+use mathlib.Core.Path.{_≡_, refl, _∙_}
+use mathlib.Core.Bool.{Bool, true, false, _||_, cond as pick}
+use mathlib.Core.List.{List}
+use native.Mathlib.Omega.{arith}
+use Prim.Native.Nat.{_≤_}
+use lib.ListN.{length}
+use lib.Dec.{eqb, leb}
+use borrow.Author.Tests.{leb-true}
+use Rattle.memory.specs.Memory.{fits, laid}
+use Rattle.message.specs.declared.Fields.{Fields}
+use Rattle.message.specs.Read.{part}
+use Rattle.step.specs.Laws.{met, none}
+use Rattle.machine_next.specs.declared.Settings.{Settings}
+use Rattle.machine_next.specs.declared.Machine.{Machine}
+use Rattle.machine_next.specs.declared.Sends.the-variants.{Nothing, Load}
+use Rattle.machine_next.specs.declared.Next.{Next}
+use Rattle.machine_next.specs.Next.{loading, after, heed, byNumber, takenAs, onLoad, refusal, next, does}
+
+-- a frame that is taken, and the number rule
+abbrev pub taken : ℕ → Bool → Machine → Next
+taken number fit fitted = pick fit (next fitted true (Load (after number) 0)) (next (loading (after number) 1) false (Load (after number) 1))
+
+abbrev pub heeded : Machine → ℕ → Next → Next
+heeded m number n =
+    pick (eqb (heed m number) 1) n (pick (eqb (heed m number) 2) (next m false (Load (m .expected) (m .error))) (next m false Nothing))
+
+module _ (f : Fields) (frame memory : List ℕ) where
+  -- a choice of decisions does what the chosen one does
+  pub chosen : (b : Bool) (x y : Next) → does f frame memory (pick b x y) ≡ pick b (does f frame memory x) (does f frame memory y)
+  chosen true x y = refl
+  chosen false x y = refl
+
+  does-taken : (number : ℕ) (fit : Bool) (fitted : Machine) → fits (f .address) (length (part frame f)) (length memory) ≡ fit
+      → does f frame memory (taken number fit fitted) ≡ takenAs number fit fitted (laid (part frame f) (f .address) memory) memory
+  does-taken number true fitted e = rw e
+  does-taken number false fitted e = refl
+
+  pub does-load : (m : Machine) (number n size : ℕ) (fitted : Machine) → length (part frame f) ≡ n → length memory ≡ size
+      → does f frame memory (heeded m number (taken number (fits (f .address) n size) fitted)) ≡ onLoad m number (f .address) (part frame f) fitted memory
+  unfolding byNumber onLoad
+  does-load m number n size fitted p q =
+      let again : Next = next m false (Load (m .expected) (m .error)) in
+      let rest : Next = pick (eqb (heed m number) 2) again (next m false Nothing) in
+      chosen (eqb (heed m number) 1) (taken number (fits (f .address) n size) fitted) rest
+      ∙ (rw (chosen (eqb (heed m number) 2) again (next m false Nothing), does-taken number (fits (f .address) n size) fitted (rw (p, q)), p, q))
+
+-- a state of at most 1 is Idle or Offering
+pub idle-or-offering : (state : ℕ) → state ≤ 1 → (eqb state 0 || eqb state 1) ≡ true
+idle-or-offering zero h = refl
+idle-or-offering (suc zero) h = refl
+idle-or-offering (suc (suc n)) h = absurd (omega arith)
+
+-- a call that is not refused may rely on the ranges
+pub in-range : (s : Settings) (m : Machine) (size room : ℕ) → refusal s m size room ≡ 0
+    → (size ≤ 16777216) × (s .«reply_bytes» ≤ 1495) × (1500 ≤ room)
+in-range s m size room e =
+    let a = none _ _ e in
+    let b = none _ _ (a .1) in
+    let c = none _ _ (b .1) in
+    let d = none _ _ (c .1) in
+    let f = none _ _ (d .1) in (
+      leb-true size 16777216 (met (leb size 16777216) 10 (omega arith) (a .0)),
+      leb-true (s .«reply_bytes») 1495 (met (leb (s .«reply_bytes») 1495) 10 (omega arith) (c .0)),
+      leb-true 1500 room (met (leb 1500 room) 9 (omega arith) (f .0)),
+    )

@@ -1,0 +1,11 @@
+-- The machine's call on a timer (paper 01, 'Machine end' and 'Refused, and by whom').
+use Prim.Native.Nat.{ℕ}
+use mathlib.Core.List.{List}
+use lib.ListN.{length}
+use Rattle.step.specs.Step.{Outcome, call}
+use Rattle.machine_next.specs.declared.Settings.{Settings}
+use Rattle.machine_next.specs.declared.Machine.{Machine}
+use Rattle.machine_next.specs.Next.{refusal, onTimer}
+
+abbrev pub machineTimer : Settings → Machine → List ℕ → List ℕ → Outcome Machine (List ℕ)
+machineTimer s m memory reply = call (refusal s m (length memory) (length reply)) m memory reply (onTimer s m memory)
