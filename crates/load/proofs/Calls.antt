@@ -1,54 +1,65 @@
--- The two ways through a call, for both steps: refused, or accepted and then as the step goes on.
-use Prim.Native.Nat.{ℕ, _≤_}
+-- The ways through an accepted call, for both steps.
+use Prim.Native.Nat.{ℕ, _*_, _≤_, _<_}
 use mathlib.Core.Path.{_≡_, refl, sym, ap, subst, _∙_}
-use mathlib.Core.Bool.{cond as pick}
+use mathlib.Core.Bool.{Bool, true, false, cond as pick}
 use mathlib.Core.List.{List}
-use lib.Dec.{eqb}
-use borrow.Author.Tests.{eq-eqb, ne-eqb}
-use Rattle.octets.specs.Lay.{refused}
-use Rattle.load.specs.declared.Settings.{Settings}
-use Rattle.load.specs.declared.Session.{Session}
-use Rattle.load.specs.declared.Stepped.{Stepped}
+use native.Mathlib.Omega.{arith}
+use Rattle.octets.specs.declared.Written.{Written}
+use Rattle.message.specs.Message.{Message}
+use Rattle.image.specs.Image.{addresses}
+use Rattle.image.specs.Laws.{file-segment}
+use Rattle.step.specs.Step.{Sending, nothing, sends, Act, acts, gives, Leaves}
+use Rattle.load_next.specs.declared.Settings.{Settings}
+use Rattle.load_next.specs.declared.Session.{Session}
+use Rattle.load_next.specs.declared.Next.{Next}
+use Rattle.load_next.specs.Laws.{Bound}
 use Rattle.load.specs.declared.Ruling.{Ruling}
-use Rattle.load.specs.declared.Turn.{Turn}
-use Rattle.load.specs.Load.{Act, Out, refuses, refusalOf, gives, Left}
-use Rattle.load.specs.Laws.{Going, Inside, Accepted, accepted}
-use Rattle.load.specs.Inner.{does, Ruled, Ready}
+use Rattle.load.specs.Load.{frames, numbered, segmentMessage, counted, does}
+use Rattle.load.specs.Laws.{Accepted, accepted, most-sent}
+use Rattle.load.specs.Inner.{piece, acting, Ruled, Sendable}
 
--- a refusal's parts
-abbrev pub Refuses : ℕ → Session → Stepped → Type 0
-Refuses n h r = (r .session ≡ h) × (r .answer ≡ refused n)
+same-sending : (b : Bool) (m n : Message) → (b ≡ true → m ≡ n) → _≡_ {A = Sending} (pick b (sends m) nothing) (pick b (sends n) nothing)
+same-sending true m n e = ap sends (e refl)
+same-sending false m n e = refl
 
-module _ {s : Settings} {h : Session} {file reply : List ℕ} {k : Ruling} (ruled : Ruled s h file reply k) where
-  -- `next` is what an accepted call leaves
-  abbrev pub call : Out → Out
-  call next = pick (eqb (refusalOf s h file reply) 0) next (refuses (refusalOf s h file reply) h reply)
+module _ {s : Settings} {h : Session} {file reply : List ℕ} {i : ℕ} {k : Ruling} (ruled : Ruled s h file reply i k) (z : k .refusal ≡ 0) where
+  pub facts : Accepted s h file reply
+  facts = accepted s h file reply (sym (ruled .refused) ∙ z)
 
-  pub call-refused : (next : Out) {r : Stepped} → (k .refusal ≡ 0 → ⊥) → Refuses (k .refusal) h r → Left (call next) r reply
-  call-refused next ne e = rw (← ruled .refused, ne-eqb (k .refusal) 0 ne) (e .0, e .1, refl)
+  -- while the record runs, a frame is on its way or yet to come
+  pub goes : h .verdict ≡ 0 → h .position < k .many
+  goes v = rw (ruled .counted z) (facts .fits .goes v)
 
-  module _ (z : k .refusal ≡ 0) where
-    pub call-accepted : (next : Out) {r : Stepped} {out : List ℕ} → Left next r out → Left (call next) r out
-    call-accepted next l = rw (← ruled .refused, eq-eqb (k .refusal) 0 z) l
+  -- segment i, if there is one, can be sent
+  sendable : i < k .many → Sendable file i k reply
+  sendable l =
+      let a = facts in
+      let held = file-segment file (s .«segment_size») (a .whole) i (rw (ruled .counted z) at l) in
+      record {
+        within = rw (ruled .reached z) (held .within);
+        short = rw (ruled .reached z) (omega (arith, held .size, a .range .narrow));
+        few = omega (arith, ruled .counted z, a .few);
+        room = a .room;
+      }
 
-    facts : Accepted s h file reply
-    facts = accepted s h file reply (sym (ruled .refused) ∙ z)
+  module _ (next : Next) (b : Bound (k .many) i h next) where
+    pub ready : (next .session .sent ≤ 256 * addresses) × (next .sends ≡ true → Sendable file (next .session .position) k reply)
+    ready =
+        let a = facts in (
+          rw (b .counted) (omega (arith, a .fits .counted, most-sent (frames file (s .«segment_size»)) (s .repeats) (a .few) (a .range .few))),
+          λ e. rw (b .place e) (sendable (b .inside e)),
+        )
 
-    pub few : s .repeats ≤ 255
-    few = facts .few
+    -- the segment found beforehand is the one that goes out
+    same-message : next .sends ≡ true
+        → numbered (k .many) (k .transfer) (next .session .position) (piece file (k .segment)) ≡ segmentMessage file (s .«segment_size») (next .session .position)
+    same-message e = rw (b .place e, ruled .counted z, ruled .started z, ruled .reached z)
 
-    pub goes : h .verdict ≡ 0 → Going (k .many) h
-    goes v = rw (ruled .counted z) (facts .goes v)
+    same : acting file k next ≡ does file (s .«segment_size») next
+    same = ap (acts (counted next) tt) (same-sending (next .sends) _ _ same-message)
 
-    module _ (a : Act) (t : Turn) (e : does t ≡ a) where
-      pub ready : Inside (k .many) (a .sending) → Ready file (s .«segment_size») (k .transfer) (does t .sending) reply
-      ready i =
-          record {
-            whole = facts .whole;
-            started = ruled .started z;
-            inside = rw (ap (λ (x : Act). x .sending) e, ← ruled .counted z) i;
-            room = facts .room;
-          }
-
-      pub given : {r : Stepped} {out : List ℕ} → Left (gives file (s .«segment_size») (does t) reply) r out → Left (gives file (s .«segment_size») a reply) r out
-      given {r} {out} l = subst (λ (x : Act). Left (gives file (s .«segment_size») x reply) r out) e l
+    pub given : {other : Next} → next ≡ other → {session : Session} {answer : Written} {out : List ℕ}
+        → Leaves (gives (acting file k next) reply) session answer tt out → Leaves (gives (does file (s .«segment_size») other) reply) session answer tt out
+    given e {session} {answer} {out} l =
+        subst (λ (n : Next). Leaves (gives (does file (s .«segment_size») n) reply) session answer tt out) e
+        (subst (λ (a : Act Session Unit). Leaves (gives a reply) session answer tt out) same l)

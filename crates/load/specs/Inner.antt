@@ -1,30 +1,36 @@
--- What the inner functions answer.
-use Prim.Native.Nat.{ℕ, _≤_}
+-- What the functions inside the calls answer.
+use Prim.Native.Nat.{ℕ, _+_, _≤_, _<_}
 use mathlib.Core.Path.{_≡_}
-use mathlib.Core.Bool.{cond as pick}
 use mathlib.Core.List.{List}
 use lib.ListN.{length}
-use Rattle.image.specs.Image.{trailer, regions, many, cutRefusal}
-use Rattle.load.specs.declared.Settings.{Settings}
-use Rattle.load.specs.declared.Session.{Session}
-use Rattle.load.specs.declared.Turn.{Turn}
+use Rattle.image.specs.declared.Region.{Region}
+use Rattle.image.specs.Image.{bytes, Piece, trailer, regions, segment, widest}
+use Rattle.step.specs.Step.{Act, acts}
+use Rattle.load_next.specs.declared.Settings.{Settings}
+use Rattle.load_next.specs.declared.Session.{Session}
+use Rattle.load_next.specs.declared.Next.{Next}
 use Rattle.load.specs.declared.Ruling.{Ruling}
-use Rattle.load.specs.Load.{Sending, Act, nothing, segment, refusalOf}
-use Rattle.load.specs.Laws.{Inside}
+use Rattle.load.specs.Load.{frames, numbered, refusal, counted, sending}
 
--- what a turn does: the segment at the new position goes out, or nothing
-abbrev pub does : Turn → Act
-does t = record { session = t .session; sending = pick (t .sends) (segment (t .session .position)) nothing }
+-- what a region of the file lays into memory
+abbrev pub piece : List ℕ → Region → Piece
+piece file r = record { address = r .address; bytes = bytes file r }
 
--- A call's refusal; if it is 0, N and the transfer address.
-pub record Ruled (s : Settings) (h : Session) (file reply : List ℕ) (r : Ruling) : Type 0 where
-  pub refused : r .refusal ≡ refusalOf s h file reply
-  pub counted : r .refusal ≡ 0 → r .many ≡ many (s .«segment_size») (regions file)
-  pub started : r .refusal ≡ 0 → r .transfer ≡ trailer file .transfer
+-- what is done next, with the segment that was found beforehand
+abbrev pub acting : List ℕ → Ruling → Next → Act Session Unit
+acting file k next =
+    acts (counted next) tt (sending next (numbered (k .many) (k .transfer) (next .session .position) (piece file (k .segment))))
 
--- What writing rests on: the image is whole, its transfer address is at hand, what is sent is a segment of it, and there is room.
-pub record Ready (file : List ℕ) (S transfer : ℕ) (what : Sending) (reply : List ℕ) : Type 0 where
-  pub whole : cutRefusal file S ≡ 0
-  pub started : transfer ≡ trailer file .transfer
-  pub inside : Inside (many S (regions file)) what
+-- a call's refusal; if it is 0, N, the image's transfer address and segment i
+pub record Ruled (s : Settings) (h : Session) (file reply : List ℕ) (i : ℕ) (k : Ruling) : Type 0 where
+  pub refused : k .refusal ≡ refusal s h file reply
+  pub counted : k .refusal ≡ 0 → k .many ≡ frames file (s .«segment_size»)
+  pub started : k .refusal ≡ 0 → k .transfer ≡ trailer file .transfer
+  pub reached : k .refusal ≡ 0 → k .segment ≡ segment (s .«segment_size») (regions file) i
+
+-- the segment found lies within the file and fits a frame, there is one of that index, and the reply buffer has room for any frame
+pub record Sendable (file : List ℕ) (i : ℕ) (k : Ruling) (reply : List ℕ) : Type 0 where
+  pub within : k .segment .place + k .segment .length ≤ length file
+  pub short : k .segment .length ≤ widest
+  pub few : i < 18446744073709551615
   pub room : 1500 ≤ length reply

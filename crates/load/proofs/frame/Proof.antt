@@ -1,92 +1,132 @@
 -- `load::frame` meets its contract.
-use Prim.Native.Nat.{ℕ}
-use mathlib.Core.Path.{_≡_, refl}
+use Prim.Native.Nat.{ℕ, _≤_}
+use mathlib.Core.Path.{_≡_, sym, ap, _∙_}
 use mathlib.Core.List.{List}
-use borrow.Author.Tests.{eq-eqb, ne-eqb}
+use native.Mathlib.Omega.{arith}
 use borrow.Author.Needs.{needs}
-use Rattle.message.specs.Read.{refused, message, read}
-use Rattle.fields.specs.declared.Fields.{Fields}
-use Rattle.fields.specs.Stated.{stated, Fielded}
-use Rattle.image.specs.Image.{regions, many}
-use Rattle.load.specs.Load.{react, running, onReading}
-use Rattle.load.specs.Laws.{react-inside}
-use Rattle.load.proofs.Calls.{call-refused, call-accepted, goes, ready, given}
+use Rattle.octets.specs.declared.Written.{Written}
+use Rattle.octets.specs.Lay.{refused}
+use Rattle.message.specs.declared.Fields.{Fields}
+use Rattle.message.specs.Read.{fields}
+use Rattle.image.specs.Image.{addresses}
+use Rattle.step.specs.Step.{Act, gives, Leaves}
+use Rattle.step.specs.Laws.{frame-call-refused, frame-refused, frame-accepted}
+use Rattle.load_next.specs.declared.Settings.{Settings}
+use Rattle.load_next.specs.declared.Session.{Session}
+use Rattle.load_next.specs.declared.Next.{Next}
+use Rattle.load_next.specs.Next.{react}
+use Rattle.load_next.specs.Laws.{ahead, Bound, react-bound}
+use Rattle.load.specs.declared.Ruling.{Ruling}
+use Rattle.load.specs.Load.{frames, refusal, does, loadFrame}
+use Rattle.load.specs.Inner.{acting, Ruled}
+use Rattle.load.proofs.Calls.{facts, goes, ready, given}
 use Rattle.load.proofs.frame.Statement.{statement}
 use Rattle.load.proofs.frame.Tie as tie
 
--- what the frame's numbers say is what reading it gives
-module _ {s : List ℕ} {f : Fields} (k : Fielded s f) where
-  unread : (f .refusal ≡ 0 → ⊥) → refused (f .refusal) ≡ read s
-  unread ne = rw (ne-eqb (f .refusal) 0 ne) at (k .says)
+module _ (s : Settings) (h : Session) (file frame reply : List ℕ) {i : ℕ} {k : Ruling} (ruled : Ruled s h file reply i k) where
+  abbrev reacts : Fields → Act Session Unit
+  reacts f = does file (s .«segment_size») (react (frames file (s .«segment_size»)) h f)
 
-  taken : f .refusal ≡ 0 → message (stated s f) ≡ read s
-  taken e = rw (eq-eqb (f .refusal) 0 e) at (k .says)
+  denied : (k .refusal ≡ 0 → ⊥) → {session : Session} {answer : Written} → session ≡ h → answer ≡ refused (k .refusal)
+      → Leaves (loadFrame s h file frame reply) session answer tt reply
+  denied ne e f =
+      rw (e, f, ruled .refused) (frame-call-refused (refusal s h file reply) frame h tt reply reacts (λ z. ne (ruled .refused ∙ z)))
+
+  module _ (z : k .refusal ≡ 0) {f : Fields} (r : f ≡ fields frame) where
+    number : f .refusal ≡ fields frame .refusal
+    number = ap (λ (x : Fields). x .refusal) r
+
+    unread : (f .refusal ≡ 0 → ⊥) → {session : Session} {answer : Written} → session ≡ h → answer ≡ refused (f .refusal)
+        → Leaves (loadFrame s h file frame reply) session answer tt reply
+    unread ne e g =
+        rw (e, g, number)
+        (frame-refused (refusal s h file reply) frame h tt reply reacts (sym (ruled .refused) ∙ z) (λ n. ne (number ∙ n)))
+
+    -- the segment found is the one that may go out
+    module _ (at : h .position ≤ addresses → i ≡ ahead h) {n : Next} (e : n ≡ react (k .many) h f) where
+      bound : Bound (k .many) i h n
+      bound =
+          let a = facts ruled z in
+          rw (at (omega (arith, a .fits .reached, a .few)), e) (react-bound (k .many) h (goes ruled z) f)
+
+      does-next : f .refusal ≡ 0 → {session : Session} {answer : Written} {out : List ℕ} → Leaves (gives (acting file k n) reply) session answer tt out
+          → Leaves (loadFrame s h file frame reply) session answer tt out
+      does-next w l =
+          frame-accepted (refusal s h file reply) frame h tt reply reacts (sym (ruled .refused) ∙ z) (sym number ∙ w)
+          (given ruled z n bound (rw (ruled .counted z, r) at e) l)
+
+ahead-requires : tie.Need-ahead-requires
+ahead-requires c κs = search needs
 
 rule-requires : tie.Need-rule-requires
 rule-requires c κs = search needs
 
-refuse-requires : tie.Need-refuse-requires
-refuse-requires c κs = search needs
+refused-requires : tie.Need-refused-requires
+refused-requires c κs = search needs
 
 same-length : tie.Need-same-length
 same-length c = search needs
 
 returns : tie.Need-returns
 returns c =
-    call-refused (c .before .before .before .rule .ensures) _ (c .before .if1 .taken) (c .refuse .ensures)
+    let ruled = c .before .before .before in
+    let a = ruled .before .before .before .before .before .before .args in
+    let e = c .refused .ensures in
+    denied (a .settings) (a .session) (a .file .now) (a .frame .now) (a .reply .now) (ruled .rule .ensures) (c .before .if1 .taken) (e .0) (e .1)
 
 read-requires : tie.Need-read-requires
 read-requires c κs = search needs
 
-refuse-requires-2 : tie.Need-refuse-requires-2
-refuse-requires-2 c κs = search needs
+refused-requires-2 : tie.Need-refused-requires-2
+refused-requires-2 c κs = search needs
 
 same-length-2 : tie.Need-same-length-2
 same-length-2 c = search needs
 
 returns-2 : tie.Need-returns-2
 returns-2 c =
-    let a = c .before .before .before .before .before .before .before .before .before .before .before .args in
-    let e = c .refuse2 .ensures in
-    call-accepted (c .before .before .before .before .before .before .rule .ensures) (c .before .before .before .before .if1 .left) (onReading (a .settings) (a .session) (a .file .now) (a .reply .now) (read (a .frame .now)))
-    (rw (← unread (c .before .before .before .read .ensures) (c .before .if2 .taken)) (e .0, e .1, refl))
+    let reading = c .before .before .before in
+    let ruled = reading .before .before .before in
+    let a = ruled .before .before .before .before .before .before .args in
+    let e = c .refused2 .ensures in
+    unread (a .settings) (a .session) (a .file .now) (a .frame .now) (a .reply .now) (ruled .rule .ensures) (reading .before .if1 .left) (reading .read .ensures)
+    (c .before .if2 .taken) (e .0) (e .1)
 
 react-requires : tie.Need-react-requires
-react-requires c κs =
-    goes (c .before .before .before .before .before .rule .ensures) (c .before .before .before .if1 .left)
+react-requires c κs = search needs
 
 give-requires : tie.Need-give-requires
 give-requires c κs =
-    let a = c .before .before .before .before .before .before .before .before .before .before .before .before .args in
-    let k = c .before .before .before .before .before .before .before .rule .ensures in
-    let z = c .before .before .before .before .before .if1 .left in
-    let what = stated (a .frame .now) (c .before .before .before .before .read .result) in
-    ready k z _ (c .before .react .result) (c .before .react .ensures (a .frame .now)) (react-inside _ (a .session) (goes k z) what)
+    let reading = c .before .before .before .before in
+    let ruled = reading .before .before .before in
+    let a = ruled .before .before .before .before .before .before .args in
+    let z = reading .before .if1 .left in
+    ready (ruled .rule .ensures) z (c .before .react .result)
+    (bound (a .settings) (a .session) (a .file .now) (a .frame .now) (a .reply .now) (ruled .rule .ensures) z (reading .read .ensures) (ruled .before .ahead .ensures) (c .before .react .ensures))
 
 same-length-3 : tie.Need-same-length-3
 same-length-3 c = search needs
 
 returns-3 : tie.Need-returns-3
 returns-3 c =
-    let a = c .before .before .before .before .before .before .before .before .before .before .before .before .before .before .before .args in
-    let k = c .before .before .before .before .before .before .before .before .before .before .rule .ensures in
-    let z = c .before .before .before .before .before .before .before .before .if1 .left in
-    let N = many (a .settings .«segment_size») (regions (a .file .now)) in
-    let act = running (a .session) (react N (a .session) (stated (a .frame .now) (c .before .before .before .before .before .before .before .read .result))) in
-    call-accepted k z (onReading (a .settings) (a .session) (a .file .now) (a .reply .now) (read (a .frame .now)))
-    (rw (← taken (c .before .before .before .before .before .before .before .read .ensures) (c .before .before .before .before .before .if2 .left))
-    (given k z act (c .before .before .before .before .react .result) (rw (k .counted z) at (c .before .before .before .before .react .ensures (a .frame .now))) (c .before .before .give .ensures)))
+    let reacted = c .before .before .before .before in
+    let reading = reacted .before .before .before in
+    let ruled = reading .before .before .before in
+    let a = ruled .before .before .before .before .before .before .args in
+    does-next (a .settings) (a .session) (a .file .now) (a .frame .now) (a .reply .now) (ruled .rule .ensures) (reading .before .if1 .left) (reading .read .ensures)
+    (ruled .before .ahead .ensures) (reacted .react .ensures) (reacted .before .if2 .left) (c .before .before .give .ensures)
 
 pub frame-spec : {M : Type 1} → statement M
 frame-spec =
     tie.close
     (tie.spec
+    ahead-requires
     rule-requires
-    refuse-requires
+    refused-requires
     same-length
     returns
     read-requires
-    refuse-requires-2
+    refused-requires-2
     same-length-2
     returns-2
     react-requires

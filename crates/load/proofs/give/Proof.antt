@@ -1,46 +1,55 @@
 -- `load::give` meets its contract.
 use Prim.Native.Nat.{ℕ}
-use mathlib.Core.Path.{_≡_, refl}
+use mathlib.Core.Path.{_≡_, refl, ap}
 use mathlib.Core.Bool.{true, false}
 use mathlib.Core.List.{List}
 use borrow.Author.Needs.{needs}
 use Rattle.octets.specs.declared.Written.{Written}
-use Rattle.octets.specs.Lay.{written, Came}
+use Rattle.octets.specs.Lay.{Came, written}
 use Rattle.message.specs.Write.{sent}
-use Rattle.load.specs.declared.Turn.{Turn}
-use Rattle.load.specs.Load.{segmentMessage, segment, gives, Left}
-use Rattle.load.specs.Inner.{does, Ready}
+use Rattle.step.specs.Step.{gives, Leaves}
+use Rattle.load_next.specs.declared.Session.{Session}
+use Rattle.load_next.specs.declared.Next.{Next}
+use Rattle.load.specs.declared.Ruling.{Ruling}
+use Rattle.load.specs.Load.{numbered, raised, counted}
+use Rattle.load.specs.Inner.{piece, acting}
 use Rattle.load.proofs.give.Statement.{statement}
 use Rattle.load.proofs.give.Tie as tie
 
-module _ (file : List ℕ) (S : ℕ) (t : Turn) (reply : List ℕ) where
-  ready : (transfer : ℕ) → t .sends ≡ true → Ready file S transfer (does t .sending) reply → Ready file S transfer (segment (t .session .position)) reply
-  ready transfer e k = rw e at k
+module _ (file : List ℕ) (k : Ruling) (next : Next) (reply : List ℕ) {session : Session} (s : session ≡ counted next) where
+  frame : next .sends ≡ true → {answer : Written} {out : List ℕ}
+      → Came (sent (numbered (k .many) (k .transfer) (session .position) (piece file (k .segment))) reply) answer out
+      → Leaves (gives (acting file k next) reply) session answer tt out
+  frame e c =
+      let raise : session ≡ raised (next .session) = rw e at s in
+      let came = rw (ap (λ (h : Session). h .position) raise) at c in
+      rw e (raise, came .0, refl, came .1)
 
-  sends : {answer : Written} {out : List ℕ} → t .sends ≡ true → Came (sent (segmentMessage file S (t .session .position)) reply) answer out
-      → Left (gives file S (does t) reply) (record { session = t .session; answer = answer }) out
-  sends e h = rw e (refl, h .0, h .1)
+  nothing-sent : next .sends ≡ false → Leaves (gives (acting file k next) reply) session (written 0) tt reply
+  nothing-sent e = rw e (rw e at s, refl, refl, refl)
 
-  rests : t .sends ≡ false → Left (gives file S (does t) reply) (record { session = t .session; answer = written 0 }) reply
-  rests e = rw e (refl, refl, refl)
+counted-requires : tie.Need-counted-requires
+counted-requires c κs = search needs
 
 send-requires : tie.Need-send-requires
 send-requires c κs =
-    let a = c .before .before .before .before .before .args in
-    ready (a .file .now) (a .size) (a .turn) (a .reply .now) (a .transfer) (c .before .if1 .taken) (c .before .before .before .before .before .pre)
+    let e = c .before .if1 .taken in
+    rw (c .before .before .counted .ensures, e) (c .before .before .before .before .before .pre .1 e)
 
 same-length : tie.Need-same-length
 same-length c = search needs
 
 returns : tie.Need-returns
 returns c =
-    let a = c .before .before .before .before .before .before .before .before .args in
-    sends (a .file .now) (a .size) (a .turn) (a .reply .now) (c .before .before .before .before .if1 .taken) (c .before .before .send .ensures)
+    let given = c .before .before in
+    let counts = given .before .before .before in
+    let a = counts .before .before .before .args in
+    frame (a .file .now) (a .k) (a .next) (a .reply .now) (counts .counted .ensures) (given .before .before .if1 .taken) (given .send .ensures)
 
 returns-2 : tie.Need-returns-2
 returns-2 c =
     let a = c .before .before .before .before .args in
-    rests (a .file .now) (a .size) (a .turn) (a .reply .now) (c .if1 .left)
+    nothing-sent (a .file .now) (a .k) (a .next) (a .reply .now) (c .before .counted .ensures) (c .if1 .left)
 
 pub give-spec : {M : Type 1} → statement M
-give-spec = tie.close (tie.spec send-requires same-length returns returns-2)
+give-spec = tie.close (tie.spec counted-requires send-requires same-length returns returns-2)
