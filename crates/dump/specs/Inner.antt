@@ -1,20 +1,28 @@
--- What the inner functions answer and rest on.
+-- What the inner functions rest on.
 use Prim.Native.Nat.{ℕ, _+_, _^_, _<_, _≤_}
-use mathlib.Core.Bool.{_&&_, cond as pick}
-use lib.Dec.{ltb}
-use Rattle.dump.specs.declared.Settings.{Settings}
-use Rattle.dump.specs.declared.Session.{Session}
-use Rattle.dump.specs.Dump.{settled, sound}
+use mathlib.Core.Bool.{Bool, true, false}
+use Rattle.dump_next.specs.declared.Settings.{Settings}
+use Rattle.dump_next.specs.declared.Session.{Session}
+use Rattle.dump_next.specs.declared.Sends.{Sends}
+use Rattle.dump_next.specs.declared.Sends.the-variants.{Nothing, Request, Complete}
+use Rattle.dump_next.specs.declared.Next.{Next}
 
--- a call's refusal: 10, then 9; 0 is none
-abbrev pub barred : Settings → Session → ℕ → ℕ → ℕ
-barred s h size room = pick (settled s size && sound s h) (pick (ltb room 1500) 9 0) 10
+-- if code 4 goes out, something is missing
+abbrev pub Missing : Settings → Session → Sends → Type 0
+Missing s h Nothing = Unit {0}
+Missing s h Request = h .filled < s .length
+Missing s h Complete = Unit {0}
 
--- What a step has to go on: a dump that is not full, numbers far from overflow, and a reply buffer of n bytes.
-pub record Underway (s : Settings) (h : Session) (n : ℕ) : Type 0 where
-  pub most : s .most ≤ 1495
+-- if bytes are taken, as many as a number says fit behind a place
+abbrev pub Room : Bool → ℕ → ℕ → ℕ → Type 0
+Room false at count size = Unit {0}
+Room true at count size = at + count ≤ size
+
+-- What writing a frame and counting it rest on: settings in their ranges, counts far from overflow, a reply buffer of 1,500 bytes.
+pub record Ready (s : Settings) (n : Next) (size : ℕ) : Type 0 where
+  pub bytes : s .«request_bytes» ≤ 1495
   pub range : s .address + s .length ≤ 4294967296
-  pub filled : h .filled < s .length
-  pub replies : h .replies ≤ h .filled
-  pub sent : h .sent < 2 ^ 62
-  pub room : 1500 ≤ n
+  pub missing : Missing s (n .session) (n .sends)
+  pub replies : n .session .replies < 2 ^ 62
+  pub sent : n .session .sent < 2 ^ 62
+  pub room : 1500 ≤ size

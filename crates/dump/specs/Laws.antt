@@ -1,47 +1,38 @@
--- Laws of a dump: what a refusal's number decides, what an accepted call has, and the ways through a step on a frame.
-use Prim.Native.Nat.{ℕ, _+_, _-_, _*_, _^_, _<_, _≤_}
-use mathlib.Core.Path.{_≡_, refl, ap, sym, _∙_}
+-- Laws of a dump's calls: what an accepted call has, and that it is ready for what is done next.
+use Prim.Native.Nat.{ℕ, _+_, _*_, _^_, _<_, _≤_}
+use mathlib.Core.Path.{_≡_, refl, _∙_}
 use mathlib.Core.Bool.{Bool, true, false, not, _&&_, cond as pick}
-use mathlib.Core.List.{List, _++_}
+use mathlib.Core.List.{List, [], _∷_}
 use native.Mathlib.Omega.{arith}
-use native.Mathlib.Nat.{mul-le-mul-left, zero-add}
-use lib.ListN.{length, take, drop, length-take, length-drop}
-use lib.Seq.{take-length}
+use native.Mathlib.Nat.{mul-le-mul-left}
+use lib.ListN.{length}
 use lib.Dec.{eqb, leb, ltb}
-use borrow.Author.Tests.{leb-true, eqb-true, eqb-false, ltb-false, not-true, eq-eqb, ne-eqb}
-use Rattle.octets.specs.Cases.{by-cases}
-use Rattle.octets.specs.Lay.{put, put-whole, copied}
-use Rattle.octets.specs.Lay.{over as laid-over}
-use Rattle.message.specs.Message.{Message}
-use Rattle.fields.specs.declared.Fields.{Fields}
-use Rattle.fields.specs.Stated.{part, stated, said}
-use Rattle.dump.specs.declared.Settings.{Settings}
-use Rattle.dump.specs.declared.Session.{Session}
-use Rattle.dump.specs.Dump.{Act, Out, settled, blank, sound, refuses, called, onReading, gives, ignores, onOffer, onData, react}
-use Rattle.dump.specs.Inner.{barred, Underway}
-
-chosen : (fine short : Bool) (refuse : ℕ → Out) (out : Out) (n : ℕ) → n ≡ pick fine (pick short 9 0) 10
-    → pick fine (pick short (refuse 9) out) (refuse 10) ≡ pick (eqb n 0) out (refuse n)
-chosen true true refuse out n e = rw e
-chosen true false refuse out n e = rw e
-chosen false true refuse out n e = rw e
-chosen false false refuse out n e = rw e
-
-pub called-by : (s : Settings) (h : Session) (buffer reply : List ℕ) (out : Out) (n : ℕ) → n ≡ barred s h (length buffer) (length reply)
-    → called s h buffer reply out ≡ pick (eqb n 0) out (refuses n h buffer reply)
-called-by s h buffer reply out n e =
-    chosen (settled s (length buffer) && sound s h) (ltb (length reply) 1500) (λ k. refuses k h buffer reply) out n e
+use borrow.Author.Tests.{leb-true, eqb-true, eqb-false, not-true}
+use Rattle.octets.specs.declared.Written.{Written}
+use Rattle.octets.specs.Cases.{by-cases, both}
+use Rattle.octets.specs.Lay.{Came, written}
+use Rattle.message.specs.declared.Fields.{Fields}
+use Rattle.message.specs.Message.{requestDump, dumpComplete}
+use Rattle.message.specs.Read.{fields, part}
+use Rattle.message.specs.Write.{sent}
+use Rattle.step.specs.Step.{unless, gives, Leaves}
+use Rattle.step.specs.Laws.{met, none, frame-accepted}
+use Rattle.dump_next.specs.declared.Settings.{Settings}
+use Rattle.dump_next.specs.declared.Session.{Session}
+use Rattle.dump_next.specs.declared.Sends.{Sends}
+use Rattle.dump_next.specs.declared.Sends.the-variants.{Nothing, Request, Complete}
+use Rattle.dump_next.specs.declared.Next.{Next}
+use Rattle.dump_next.specs.Next.{place, asked, reached, takes, react, onTimer}
+use Rattle.dump.specs.Dump.{settled, blank, sound, refusal, replies, frames, counted, filled, does, onFrame, dumpFrame}
+use Rattle.dump.specs.Inner.{Missing, Room, Ready}
 
 -- Settings in their ranges.
 pub record Ranged (s : Settings) (size : ℕ) : Type 0 where
-  pub most : s .most ≤ 1495
+  pub bytes : s .«request_bytes» ≤ 1495
   pub repeats : s .repeats ≤ 255
+  pub least : 1 ≤ s .length
   pub range : s .address + s .length ≤ 4294967296
   pub whole : size ≡ s .length
-
-both : (a b : Bool) → a && b ≡ true → (a ≡ true) × (b ≡ true)
-both true b e = (refl, e)
-both false b e = let z : _≡_ {A = ℕ} 0 1 = cc in absurd (omega arith)
 
 pub ranged : (s : Settings) (size : ℕ) → settled s size ≡ true → Ranged s size
 ranged s size e =
@@ -49,10 +40,11 @@ ranged s size e =
     let range = both _ (leb (s .address + s .length) 4294967296) (whole .0) in
     let least = both _ (leb 1 (s .length)) (range .0) in
     let repeats = both _ (leb (s .repeats) 255) (least .0) in
-    let most = both (leb 1 (s .most)) (leb (s .most) 1495) (repeats .0) in
+    let bytes = both (leb 1 (s .«request_bytes»)) (leb (s .«request_bytes») 1495) (repeats .0) in
     record {
-      most = leb-true (s .most) 1495 (most .1);
+      bytes = leb-true (s .«request_bytes») 1495 (bytes .1);
       repeats = leb-true (s .repeats) 255 (repeats .1);
+      least = leb-true 1 (s .length) (least .1);
       range = leb-true (s .address + s .length) 4294967296 (range .1);
       whole = eqb-true size (s .length) (whole .1);
     }
@@ -61,90 +53,126 @@ ranged s size e =
 pub bound : (replies repeats : ℕ) → replies ≤ 4294967296 → repeats ≤ 255 → (replies + 1) * (repeats + 1) + 1 < 2 ^ 62
 bound replies repeats p r = omega (arith, mul-le-mul-left {m = repeats + 1} {n = 256} (replies + 1) (omega arith))
 
-going : (s : Settings) (h : Session) (size room : ℕ) → Ranged s size → h .filled ≤ s .length → h .replies ≤ h .filled
-    → h .sent ≤ (h .replies + 1) * (s .repeats + 1) + 1 → (h .filled ≡ s .length → ⊥) → 1500 ≤ room → Underway s h room
-going s h size room r filled replies sent short enough =
-    record {
-      most = r .most;
-      range = r .range;
-      filled = omega arith;
-      replies = replies;
-      sent = omega (arith, bound (h .replies) (s .repeats) (omega arith) (r .repeats));
-      room = enough;
-    }
+-- What a good record has.
+pub record Kept (s : Settings) (h : Session) : Type 0 where
+  pub filled : h .filled ≤ s .length
+  pub replies : h .replies ≤ h .filled
+  pub sent : h .sent ≤ (h .replies + 1) * (s .repeats + 1) + 1
+  pub short : h .verdict ≡ 0 → h .filled < s .length
 
-passed : (fine short : Bool) (n : ℕ) → n ≡ pick fine (pick short 9 0) 10 → n ≡ 0 → (fine ≡ true) × (short ≡ false)
-passed true true n e z = absurd (omega arith)
-passed true false n e z = (refl, refl)
-passed false true n e z = absurd (omega arith)
-passed false false n e z = absurd (omega arith)
-
-pub underway : (s : Settings) (h : Session) (size room n : ℕ) → n ≡ barred s h size room → n ≡ 0 → h .verdict ≡ 0
-    → Underway s h room × (size ≡ s .length)
-underway s h size room n e z v =
+kept : (s : Settings) (h : Session) → sound s h ≡ true → Kept s h
+kept s h e =
     let most = (h .replies + 1) * (s .repeats + 1) + 1 in
     let full = eqb (h .filled) (s .length) in
-    let p = passed (settled s size && sound s h) (ltb room 1500) n e z in
-    let fine = both (settled s size) (sound s h) (p .0) in
-    let r = ranged s size (fine .0) in
-    let agrees = both _ (pick (eqb (h .verdict) 1) full (not full)) (fine .1) in
+    let agrees = both _ (pick (eqb (h .verdict) 1) full (not full)) e in
     let waits = both _ (pick (eqb (h .waiting) 1) (blank h) true) (agrees .0) in
     let waiting = both _ (leb (h .waiting) 1) (waits .0) in
     let sent = both _ (leb (h .sent) most) (waiting .0) in
     let replies = both _ (leb (h .replies) (h .filled)) (sent .0) in
     let filled = both (leb (h .verdict) 3 && leb (h .repeats) (s .repeats)) (leb (h .filled) (s .length)) (replies .0) in
-    let short : not full ≡ true = rw v at (agrees .1) in (
-      going s h size room r (leb-true (h .filled) (s .length) (filled .1)) (leb-true (h .replies) (h .filled) (replies .1)) (leb-true (h .sent) most (sent .1))
-          (eqb-false (h .filled) (s .length) (not-true full short)) (ltb-false room 1500 (p .1)),
-      r .whole,
-    )
+    let within = leb-true (h .filled) (s .length) (filled .1) in
+    record {
+      filled = within;
+      replies = leb-true (h .replies) (h .filled) (replies .1);
+      sent = leb-true (h .sent) most (sent .1);
+      short = λ v.
+          let missing : not full ≡ true = rw v at (agrees .1) in
+          let other = eqb-false (h .filled) (s .length) (not-true full missing) in
+          omega arith;
+    }
 
--- The ways through a step on a frame that is read, by its numbers.
-module _ (s : Settings) (h : Session) (buffer reply frame : List ℕ) (f : Fields) where
-  pub unread : (f .refusal ≡ 0 → ⊥) → onReading s h buffer reply (said frame f) ≡ refuses (f .refusal) h buffer reply
-  unread e = rw (ne-eqb (f .refusal) 0 e)
+-- What an accepted call has.
+pub record Accepted (s : Settings) (h : Session) (size free : ℕ) : Type 0 where
+  pub ranges : Ranged s size
+  pub numbers : Kept s h
+  pub room : 1500 ≤ free
 
-  module _ (e : f .refusal ≡ 0) where
-    pub over : (h .verdict ≡ 0 → ⊥) → onReading s h buffer reply (said frame f) ≡ gives (ignores h buffer) reply
-    over v = rw (eq-eqb (f .refusal) 0 e, ne-eqb (h .verdict) 0 v)
+pub accepted : (s : Settings) (h : Session) (size room : ℕ) → refusal s h size room ≡ 0 → Accepted s h size room
+accepted s h size room e =
+    let first = none (unless (settled s size) 10) (unless (sound s h) 10 ∷ unless (leb 1500 room) 9 ∷ []) e in
+    let second = none (unless (sound s h) 10) (unless (leb 1500 room) 9 ∷ []) (first .1) in
+    let third = none (unless (leb 1500 room) 9) [] (second .1) in
+    record {
+      ranges = ranged s size (met (settled s size) 10 (omega arith) (first .0));
+      numbers = kept s h (met (sound s h) 10 (omega arith) (second .0));
+      room = leb-true 1500 room (met (leb 1500 room) 9 (omega arith) (third .0));
+    }
 
-    module _ (v : h .verdict ≡ 0) where
-      read-on : onReading s h buffer reply (said frame f) ≡ gives (react s h (stated frame f) buffer) reply
-      read-on = rw (eq-eqb (f .refusal) 0 e, eq-eqb (h .verdict) 0 v)
+-- at most one reply is taken, and one frame goes out
+pub one-reply : (takes : Bool) → replies takes ≤ 1
+one-reply true = omega arith
+one-reply false = omega arith
 
-      pub on-offer : f .code ≡ 12 → onReading s h buffer reply (said frame f) ≡ gives (onOffer s h buffer) reply
-      on-offer k = read-on ∙ (rw k)
+pub one-frame : (sends : Sends) → frames sends ≤ 1
+one-frame Nothing = omega arith
+one-frame Request = omega arith
+one-frame Complete = omega arith
 
-      pub on-data : f .code ≡ 14 → onReading s h buffer reply (said frame f) ≡ gives (onData s h (f .address) (part frame f) buffer) reply
-      on-data k = read-on ∙ (rw k)
+-- What is so of what is done next, on a reply of k bytes: the counts stay, and what is asked for or taken is within the range.
+abbrev Follows : Settings → Session → ℕ → Next → Type 0
+Follows s h k n =
+    (n .session .replies ≡ h .replies) × (n .session .sent ≡ h .sent) × Missing s (n .session) (n .sends) × Room (n .takes) (h .filled) k (s .length)
 
-      -- all other codes
-      Ignored : Message → Type 0
-      Ignored m = react s h m buffer ≡ ignores h buffer
+module _ (s : Settings) (h : Session) (size free : ℕ) (a : Accepted s h size free) where
+  taken : (k address : ℕ) → (eqb (h .waiting) 0 && eqb address (place s h) && leb 1 k && leb k (asked s h)) ≡ true → Follows s h k (takes s (reached h (h .filled + k)))
+  taken k address e =
+      let least = leb-true k (asked s h) (both (eqb (h .waiting) 0 && eqb address (place s h) && leb 1 k) (leb k (asked s h)) e .1) in
+      let within = a .numbers .filled in
+      by-cases (Follows s h k) (eqb (h .filled + k) (s .length)) (λ _. omega arith) (λ d. let other = eqb-false (h .filled + k) (s .length) d in omega arith)
 
-      others : (f .code ≡ 12 → ⊥) → (f .code ≡ 14 → ⊥) → Ignored (stated frame f)
-      unfolding Ignored
-      others k l =
-          by-cases Ignored (eqb (f .code) 0) (λ _. refl) (λ _.
-          by-cases Ignored (eqb (f .code) 2) (λ _. refl) (λ _.
-          by-cases Ignored (eqb (f .code) 8) (λ _. refl) (λ _.
-          by-cases Ignored (eqb (f .code) 10) (λ _. refl) (λ _.
-          by-cases Ignored (eqb (f .code) 4) (λ _. refl) (λ _.
-          rw (ne-eqb (f .code) 12 k, ne-eqb (f .code) 14 l)
-          (by-cases Ignored (eqb (f .code) 1) (λ _. refl) (λ _.
-          by-cases Ignored (eqb (f .code) 3) (λ _. refl) (λ _.
-          by-cases Ignored (eqb (f .code) 20) (λ _. refl) (λ _.
-          by-cases Ignored (eqb (f .code) 24) (λ _. refl) (λ _. refl))))))))))
+  on-frame : (f : Fields) → Follows s h (f .«data_length») (react s h f)
+  on-frame f =
+      let P : Next → Type 0 = Follows s h (f .«data_length») in
+      by-cases P (eqb (h .verdict) 0) (λ _.
+      by-cases P (eqb (f .code) 12) (λ _. by-cases P (eqb (h .waiting) 1) (λ _. omega (arith, a .ranges .least)) (λ _. omega arith)) (λ _.
+      by-cases P (eqb (f .code) 14) (λ _. by-cases P _ (taken (f .«data_length») (f .address)) (λ _. omega arith)) (λ _. omega arith))) (λ _. omega arith)
 
-      pub on-other : (f .code ≡ 12 → ⊥) → (f .code ≡ 14 → ⊥) → onReading s h buffer reply (said frame f) ≡ gives (ignores h buffer) reply
-      unfolding Ignored
-      on-other k l = read-on ∙ ap (λ (a : Act). gives a reply) (others k l)
+  on-timer : Follows s h 0 (onTimer s h)
+  on-timer =
+      let P : Next → Type 0 = Follows s h 0 in
+      by-cases P (eqb (h .verdict) 0) (λ v.
+      let short = a .numbers .short (eqb-true (h .verdict) 0 v) in
+      by-cases P (eqb (h .waiting) 0) (λ _. by-cases P (ltb (h .repeats) (s .repeats)) (λ _. omega arith) (λ _. omega arith)) (λ _. omega arith)) (λ _. omega arith)
 
--- bytes put at the front of the buffer's part from a place on are laid over the buffer from there
-pub lent : (bytes : List ℕ) (at : ℕ) (buffer part : List ℕ) → at + length bytes ≤ length buffer
-    → part ≡ put bytes 0 (take (length buffer - at) (drop at buffer))
-    → take at buffer ++ (part ++ drop (length buffer - at) (drop at buffer)) ≡ laid-over bytes at buffer
-lent bytes at buffer part h e =
-    let whole = take (length buffer - at) (drop at buffer) in
-    let room : 0 + length bytes ≤ length whole = simp (length-take, length-drop) (omega arith) in
-    copied bytes at buffer part h (e ∙ sym (put-whole bytes 0 whole room .1) ∙ (rw (zero-add, take-length)))
+  ready : (k : ℕ) (n : Next) → Follows s h k n → Ready s n free
+  ready k n f =
+      let r = a .ranges in
+      let g = a .numbers in
+      record {
+        bytes = r .bytes;
+        range = r .range;
+        missing = f .2;
+        replies = omega arith;
+        sent = omega (arith, bound (h .replies) (s .repeats) (omega arith) (r .repeats));
+        room = a .room;
+      }
+
+  pub ready-frame : (f : Fields) → Ready s (react s h f) free × Room (react s h f .takes) (h .filled) (f .«data_length») size
+  ready-frame f = (ready (f .«data_length») (react s h f) (on-frame f), rw (a .ranges .whole) (on-frame f .3))
+
+  pub ready-timer : Ready s (onTimer s h) free
+  ready-timer = ready 0 (onTimer s h) on-timer
+
+-- what goes out, by its case
+module _ (s : Settings) (n : Next) (buffer reply : List ℕ) where
+  pub tells-nothing : n .sends ≡ Nothing → Leaves (gives (does s n buffer) reply) (counted n) (written 0) buffer reply
+  tells-nothing e = rw e (refl, refl, refl, refl)
+
+  module _ {answer : Written} {reply′ : List ℕ} where
+    pub tells-request : n .sends ≡ Request → Came (sent (requestDump (place s (n .session)) (asked s (n .session))) reply) answer reply′
+        → Leaves (gives (does s n buffer) reply) (counted n) answer buffer reply′
+    tells-request e c = rw e (refl, c .0, refl, c .1)
+
+    pub tells-complete : n .sends ≡ Complete → Came (sent dumpComplete reply) answer reply′
+        → Leaves (gives (does s n buffer) reply) (counted n) answer buffer reply′
+    tells-complete e c = rw e (refl, c .0, refl, c .1)
+
+-- a step on a frame that is not refused: what is done next, with the bytes taken, is what the call leaves
+pub stepped : (s : Settings) (h : Session) (frame buffer reply : List ℕ) (f : Fields) (n : Next) (filled′ : List ℕ) {session : Session} {answer : Written} {reply′ : List ℕ}
+    → refusal s h (length buffer) (length reply) ≡ 0 → f ≡ fields frame → f .refusal ≡ 0 → n ≡ react s h f
+    → filled′ ≡ filled (n .takes) (part frame f) (h .filled) buffer
+    → Leaves (gives (does s n filled′) reply) session answer filled′ reply′
+    → Leaves (dumpFrame s h frame buffer reply) session answer filled′ reply′
+stepped s h frame buffer reply f n filled′ z q e r o l =
+    let done = rw (o, r, q) at l in
+    frame-accepted (refusal s h (length buffer) (length reply)) frame h buffer reply (onFrame s h frame buffer) z (rw q at e) (done .0, done .1, (rw (r, q) at o) ∙ done .2, done .3)

@@ -1,35 +1,22 @@
-// The host's end of a dump (paper 01, 'Host end').
+// The calls of the host's end of a dump (paper 01, 'Host end'): refusals, counts, and the bytes that go in and out.
 ghost use mathlib.Core.Path.{_≡_};
 ghost use mathlib.Core.List.{List};
 ghost use mathlib.Core.Bool.{true, not, cond};
-ghost use Prim.Native.Nat.{ℕ, _≤_, _<_, _^_};
+ghost use Prim.Native.Nat.{ℕ, _+_, _≤_, _<_, _^_};
 ghost use lib.ListN.{length};
 ghost use lib.Dec.{eqb};
-ghost use Rattle.octets.specs.Lay.{written, refused};
-ghost use Rattle.dump.specs.Dump.{fresh, asked, asks, ends, onOffer, onData, timed, settled, blank, sound, gives, dumpFrame, dumpTimer, Left};
-ghost use Rattle.dump.specs.Inner.{barred, Underway};
+ghost use Rattle.octets.specs.Lay.{refused, Came};
+ghost use Rattle.message.specs.Message.{requestDump};
+ghost use Rattle.message.specs.Write.{sent};
+ghost use Rattle.step.specs.Step.{gives, Leaves};
+ghost use Rattle.dump_next.specs.Next.{fresh, place, asked};
+ghost use Rattle.dump.specs.Dump.{settled, blank, sound, refusal, replies, frames, counted, filled, does, dumpFrame, dumpTimer};
+ghost use Rattle.dump.specs.Inner.{Room, Ready};
+use dump_next::Next;
+use dump_next::Sends;
+use dump_next::Session;
+use dump_next::Settings;
 use octets::Written;
-
-// Its settings: L bytes from address A, C, the most bytes asked for at a time, and R, the repeats allowed per frame.
-#[repr(C)]
-pub struct Settings {
-    pub length: u64,
-    pub address: u32,
-    pub most: u32,
-    pub repeats: u32,
-}
-
-// Its record: the bytes filled, the replies taken, the frames sent; the repeats of the frame on its way; whether it still
-// waits for an offer (1) or not (0); the verdict: 0 running, 1 finished, 3 given up.
-#[repr(C)]
-pub struct Session {
-    pub filled: u64,
-    pub replies: u64,
-    pub sent: u64,
-    pub repeats: u32,
-    pub waiting: u8,
-    pub verdict: u8,
-}
 
 // What a step gives: the next record, and the length of the frame to send, 0 for none, or a refusal.
 #[repr(C)]
@@ -42,24 +29,17 @@ pub struct Stepped {
 pub fn start() -> Session
     ensures { λ r. ⌜ r ≡ fresh ⌝ }
 {
-    Session {
-        filled: 0,
-        replies: 0,
-        sent: 0,
-        repeats: 0,
-        waiting: 1,
-        verdict: 0,
-    }
+    dump_next::start()
 }
 
 // The settings are within their ranges, and the dump buffer has just the range's length.
 fn settled(s: Settings, size: usize) -> bool
     ensures { λ r. ⌜ r ≡ settled s size ⌝ }
 {
-    if s.most < 1 {
+    if s.request_bytes < 1 {
         return false;
     }
-    if 1495 < s.most {
+    if 1495 < s.request_bytes {
         return false;
     }
     if 255 < s.repeats {
@@ -140,9 +120,9 @@ fn sound(s: Settings, h: Session) -> bool
     agrees(s, h)
 }
 
-// 10, then 9; 0 is no refusal.
-fn barred(s: Settings, h: Session, size: usize, room: usize) -> u8
-    ensures { λ r. ⌜ r ≡ barred s h size room ⌝ }
+// A call's refusal: 10, then 9; 0 is none.
+fn refusal(s: Settings, h: Session, size: usize, room: usize) -> u8
+    ensures { λ r. ⌜ r ≡ refusal s h size room ⌝ }
 {
     if !settled(s, size) {
         return 10;
@@ -166,133 +146,86 @@ fn refused(h: Session, refusal: u8) -> Stepped
     }
 }
 
-// The record stays, and nothing is sent.
-fn ignored(h: Session) -> Stepped
-    ensures { λ r. ⌜ (r .session ≡ h) × (r .answer ≡ written 0) ⌝ }
+// How many replies are taken.
+fn replies(takes: bool) -> u64
+    ensures { λ r. ⌜ r ≡ replies takes ⌝ }
 {
-    Stepped {
-        session: h,
-        answer: Written {
-            length: 0,
-            refusal: 0,
+    if takes {
+        return 1;
+    }
+    0
+}
+
+// How many frames go out.
+fn frames(sends: Sends) -> u64
+    ensures { λ r. ⌜ r ≡ frames sends ⌝ }
+{
+    match sends {
+        Sends::Nothing => 0,
+        Sends::Request => 1,
+        Sends::Complete => 1,
+    }
+}
+
+// The record with its counts raised.
+fn counted(n: Next) -> Session
+    requires { ⌜ (n .session .replies < 2 ^ 62) × (n .session .sent < 2 ^ 62) ⌝ }
+    ensures { λ r. ⌜ r ≡ counted n ⌝ }
+{
+    let mut h = n.session;
+    let sends = n.sends;
+    h.replies = h.replies + replies(n.takes);
+    h.sent = h.sent + frames(sends);
+    h
+}
+
+// Code 4 for what is missing.
+fn request(s: Settings, h: Session, reply: &mut [u8]) -> Written
+    requires { ⌜ (s .«request_bytes» ≤ 1495) × (s .address + s .length ≤ 4294967296) × (h .filled < s .length) × (1500 ≤ length (now reply)) ⌝ }
+    ensures { λ r. ⌜ Came (sent (requestDump (place s h) (asked s h)) (now (reply .entry))) r (now (reply .exit)) ⌝ }
+{
+    let place = (s.address as u64 + h.filled) as u32;
+    let count = dump_next::asked(s, h) as u16;
+    writer::request_dump(place, count, reply)
+}
+
+// What goes out is counted and stands in the reply buffer.
+fn tell(s: Settings, n: Next, reply: &mut [u8]) -> Stepped
+    requires { ⌜ Ready s n (length (now reply)) ⌝ }
+    ensures { λ r. ⌜ ((buffer : List ℕ) → Leaves (gives (does s n buffer) (now (reply .entry))) (r .session) (r .answer) buffer (now (reply .exit))) ⌝ }
+{
+    let session = counted(n);
+    let h = n.session;
+    let sends = n.sends;
+    match sends {
+        Sends::Nothing => Stepped {
+            session,
+            answer: Written {
+                length: 0,
+                refusal: 0,
+            },
+        },
+        Sends::Request => Stepped {
+            session,
+            answer: request(s, h, reply),
+        },
+        Sends::Complete => Stepped {
+            session,
+            answer: writer::dump_complete(reply),
         },
     }
 }
 
-// How many bytes to ask for: the lesser of C and what is missing.
-fn asked(s: Settings, h: Session) -> u64
-    requires { ⌜ h .filled ≤ s .length ⌝ }
-    ensures { λ r. ⌜ r ≡ asked s h ⌝ }
+// A reply's bytes, if they are taken, go into the buffer from the reached place on.
+fn fill(takes: bool, part: &[u8], at: u64, buffer: &mut [u8])
+    requires { ⌜ Room takes at (length (now part)) (length (now buffer)) ⌝ }
+    ensures { λ r. ⌜ now (buffer .exit) ≡ filled takes (now (part .entry)) at (now (buffer .entry)) ⌝ }
 {
-    let most = s.most as u64;
-    let missing = s.length - h.filled;
-    if missing < most { missing } else { most }
-}
-
-// Code 4 goes out for what is missing, as one more frame.
-fn ask(s: Settings, h: Session, reply: &mut [u8]) -> Stepped
-    requires { ⌜ Underway s h (length (now reply)) ⌝ }
-    ensures { λ r. ⌜ ((buffer : List ℕ) → Left (gives (asks s h (h .filled) (h .replies) (h .repeats) buffer) (now (reply .entry))) r buffer (now (reply .exit))) ⌝ }
-{
-    let place = (s.address as u64 + h.filled) as u32;
-    let count = asked(s, h) as u16;
-    let answer = writer::request_dump(place, count, reply);
-    let mut next = h;
-    next.sent = h.sent + 1;
-    next.waiting = 0;
-    next.verdict = 0;
-    Stepped {
-        session: next,
-        answer,
+    if !takes {
+        return;
     }
-}
-
-// Code 1 goes out with a verdict, as one more frame.
-fn end(h: Session, verdict: u8, reply: &mut [u8]) -> Stepped
-    requires { ⌜ (h .sent < 2 ^ 62) × (1500 ≤ length (now reply)) ⌝ }
-    ensures { λ r. ⌜ ((buffer : List ℕ) → Left (gives (ends h verdict (h .filled) (h .replies) (h .repeats) buffer) (now (reply .entry))) r buffer (now (reply .exit))) ⌝ }
-{
-    let answer = writer::dump_complete(reply);
-    let mut last = h;
-    last.sent = h.sent + 1;
-    last.waiting = 0;
-    last.verdict = verdict;
-    Stepped {
-        session: last,
-        answer,
-    }
-}
-
-// A machine offers a dump: the first bytes are asked for.
-fn on_offer(s: Settings, h: Session, reply: &mut [u8]) -> Stepped
-    requires { ⌜ Underway s h (length (now reply)) ⌝ }
-    ensures { λ r. ⌜ ((buffer : List ℕ) → Left (gives (onOffer s h buffer) (now (reply .entry))) r buffer (now (reply .exit))) ⌝ }
-{
-    if h.waiting != 1 {
-        return ignored(h);
-    }
-    let mut first = h;
-    first.filled = 0;
-    first.replies = 0;
-    first.repeats = 0;
-    ask(s, first, reply)
-}
-
-// A reply is taken if its address is the one sent for and it has 1 to as many bytes as asked for: they go into the
-// buffer from the reached place on.
-fn on_data(
-    s: Settings,
-    h: Session,
-    address: u32,
-    part: &[u8],
-    buffer: &mut [u8],
-    reply: &mut [u8],
-) -> Stepped
-    requires { ⌜ Underway s h (length (now reply)) × (length (now buffer) ≡ s .length) ⌝ }
-    ensures { λ r. ⌜ Left (gives (onData s h address (now (part .entry)) (now (buffer .entry))) (now (reply .entry))) r (now (buffer .exit)) (now (reply .exit)) ⌝ }
-{
-    if h.waiting != 0 {
-        return ignored(h);
-    }
-    let place = s.address as u64 + h.filled;
-    if address as u64 != place {
-        return ignored(h);
-    }
-    let n = part.len() as u64;
-    if n < 1 {
-        return ignored(h);
-    }
-    let most = asked(s, h);
-    if most < n {
-        return ignored(h);
-    }
-    let at = h.filled as usize;
-    octets::put(part, &mut buffer[at..], 0);
-    let mut next = h;
-    next.filled = h.filled + n;
-    next.replies = h.replies + 1;
-    next.repeats = 0;
-    let missing = s.length - next.filled;
-    if missing == 0 {
-        return end(next, 1, reply);
-    }
-    ask(s, next, reply)
-}
-
-// A timer while asking: the frame again if fewer than R repeats are used; else given up.
-fn timed(s: Settings, h: Session, reply: &mut [u8]) -> Stepped
-    requires { ⌜ Underway s h (length (now reply)) ⌝ }
-    ensures { λ r. ⌜ ((buffer : List ℕ) → Left (gives (timed s h buffer) (now (reply .entry))) r buffer (now (reply .exit))) ⌝ }
-{
-    if h.waiting != 0 {
-        return ignored(h);
-    }
-    if h.repeats < s.repeats {
-        let mut again = h;
-        again.repeats = h.repeats + 1;
-        return ask(s, again, reply);
-    }
-    end(h, 3, reply)
+    let at = at as usize;
+    bytes::copy(part, &mut buffer[at..]);
 }
 
 // A step on a frame.
@@ -303,41 +236,31 @@ pub fn frame(
     buffer: &mut [u8],
     reply: &mut [u8],
 ) -> Stepped
-    ensures { λ r. ⌜ Left (dumpFrame settings session (now (frame .entry)) (now (buffer .entry)) (now (reply .entry))) r (now (buffer .exit)) (now (reply .exit)) ⌝ }
+    ensures { λ r. ⌜ Leaves (dumpFrame settings session (now (frame .entry)) (now (buffer .entry)) (now (reply .entry))) (r .session) (r .answer) (now (buffer .exit)) (now (reply .exit)) ⌝ }
 {
-    let refusal = barred(settings, session, buffer.len(), reply.len());
+    let refusal = refusal(settings, session, buffer.len(), reply.len());
     if refusal != 0 {
         return refused(session, refusal);
     }
-    let f = fields::read(frame);
+    let f = reader::read(frame);
     if f.refusal != 0 {
         return refused(session, f.refusal);
     }
-    if session.verdict != 0 {
-        return ignored(session);
-    }
-    let code = f.code;
-    match code {
-        12 => on_offer(settings, session, reply),
-        14 => {
-            let at = f.data_at;
-            let end = at + f.data_length;
-            on_data(settings, session, f.address, &frame[at..end], buffer, reply)
-        }
-        _ => ignored(session),
-    }
+    let next = dump_next::react(settings, session, f);
+    let at = f.data_at;
+    let end = at + f.data_length;
+    fill(next.takes, &frame[at..end], session.filled, buffer);
+    tell(settings, next, reply)
 }
 
 // A step on a timer. The buffer stays as it is.
 pub fn timer(settings: Settings, session: Session, buffer: &[u8], reply: &mut [u8]) -> Stepped
-    ensures { λ r. ⌜ Left (dumpTimer settings session (now (buffer .entry)) (now (reply .entry))) r (now (buffer .entry)) (now (reply .exit)) ⌝ }
+    ensures { λ r. ⌜ Leaves (dumpTimer settings session (now (buffer .entry)) (now (reply .entry))) (r .session) (r .answer) (now (buffer .entry)) (now (reply .exit)) ⌝ }
 {
-    let refusal = barred(settings, session, buffer.len(), reply.len());
+    let refusal = refusal(settings, session, buffer.len(), reply.len());
     if refusal != 0 {
         return refused(session, refusal);
     }
-    if session.verdict != 0 {
-        return ignored(session);
-    }
-    timed(settings, session, reply)
+    let next = dump_next::on_timer(settings, session);
+    tell(settings, next, reply)
 }

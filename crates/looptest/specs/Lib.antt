@@ -1,3 +1,2 @@
 pub mod Loop
-pub mod Inner
 pub mod Laws

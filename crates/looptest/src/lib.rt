@@ -1,10 +1,11 @@
 // The host's loop test (paper 01, 'Host end').
 ghost use mathlib.Core.Path.{_≡_};
-ghost use Prim.Native.Nat.{_≤_};
+ghost use Prim.Native.Nat.{_≤_, _<_};
 ghost use lib.ListN.{length};
 ghost use Rattle.octets.specs.Lay.{written, refused};
-ghost use Rattle.looptest.specs.Loop.{same, returned, goesOut, loopStart, loopFrame, loopTimer, Left};
-ghost use Rattle.looptest.specs.Inner.{barred};
+ghost use Rattle.step.specs.Step.{gives, Leaves};
+ghost use Rattle.looptest.specs.Loop.{begun, repeated, ended, same, refusal, returned, react, goesOut, loopStart, loopFrame, loopTimer};
+use message::Fields;
 use octets::Written;
 
 // Its settings: R, the repeats allowed, and the receipt that its frame carries.
@@ -29,23 +30,54 @@ pub struct Stepped {
     pub answer: Written,
 }
 
-// A call's refusal: 10 for R, the data or the record, then 9; 0 is none.
-fn barred(repeats: u32, bytes: &[u8], h: Session, room: usize) -> u8
-    ensures { λ r. ⌜ r ≡ barred repeats (now (bytes .entry)) h room ⌝ }
+// The test has sent its frame once.
+fn begun() -> Session
+    ensures { λ r. ⌜ r ≡ begun ⌝ }
 {
-    if 255 < repeats {
+    Session {
+        sent: 1,
+        repeats: 0,
+        verdict: 0,
+    }
+}
+
+// Another repeat is sent.
+fn repeated(h: Session) -> Session
+    requires { ⌜ (h .sent < 4294967295) × (h .repeats < 4294967295) ⌝ }
+    ensures { λ r. ⌜ r ≡ repeated h ⌝ }
+{
+    let mut next = h;
+    next.sent = h.sent + 1;
+    next.repeats = h.repeats + 1;
+    next
+}
+
+// There is a verdict.
+fn ended(h: Session, verdict: u8) -> Session
+    ensures { λ r. ⌜ r ≡ ended h verdict ⌝ }
+{
+    let mut last = h;
+    last.verdict = verdict;
+    last
+}
+
+// A call's refusal: 10 for R, the data or the record, then 9; 0 is none.
+fn refusal(s: Settings, h: Session, size: usize, room: usize) -> u8
+    ensures { λ r. ⌜ r ≡ refusal s h size room ⌝ }
+{
+    if 255 < s.repeats {
         return 10;
     }
-    if 1497 < bytes.len() {
+    if 1497 < size {
         return 10;
     }
     if 3 < h.verdict {
         return 10;
     }
-    if repeats < h.repeats {
+    if s.repeats < h.repeats {
         return 10;
     }
-    let most = repeats as u64 + 1;
+    let most = s.repeats as u64 + 1;
     if most < h.sent {
         return 10;
     }
@@ -66,7 +98,7 @@ fn refused(h: Session, refusal: u8) -> Stepped
 }
 
 // Nothing is sent.
-fn held(h: Session) -> Stepped
+fn sends_nothing(h: Session) -> Stepped
     ensures { λ r. ⌜ (r .session ≡ h) × (r .answer ≡ written 0) ⌝ }
 {
     Stepped {
@@ -79,11 +111,11 @@ fn held(h: Session) -> Stepped
 }
 
 // The test's frame goes out.
-fn send(h: Session, receipt: u16, bytes: &[u8], reply: &mut [u8]) -> Stepped
+fn goes_out(s: Settings, h: Session, bytes: &[u8], reply: &mut [u8]) -> Stepped
     requires { ⌜ (length (now bytes) ≤ 1497) × (1500 ≤ length (now reply)) ⌝ }
-    ensures { λ r. ⌜ Left (goesOut h receipt (now (bytes .entry)) (now (reply .entry))) r (now (reply .exit)) ⌝ }
+    ensures { λ r. ⌜ Leaves (gives (goesOut s h (now (bytes .entry))) (now (reply .entry))) (r .session) (r .answer) tt (now (reply .exit)) ⌝ }
 {
-    let answer = writer::loop_data(receipt, bytes, reply);
+    let answer = writer::loop_data(s.receipt, bytes, reply);
     Stepped { session: h, answer }
 }
 
@@ -104,35 +136,51 @@ fn same(a: &[u8], b: &[u8]) -> bool
     true
 }
 
-// The record takes a verdict if what came back has the test's receipt and data.
-fn returned(verdict: u8, h: Session, receipt: u16, bytes: &[u8], mark: u16, back: &[u8]) -> Session
-    ensures { λ r. ⌜ r ≡ returned verdict h receipt (now (bytes .entry)) mark (now (back .entry)) ⌝ }
+// A frame with the test's receipt and data ends it with a verdict.
+fn returned(
+    s: Settings,
+    h: Session,
+    bytes: &[u8],
+    verdict: u8,
+    receipt: u16,
+    back: &[u8],
+) -> Session
+    ensures { λ r. ⌜ r ≡ returned s h (now (bytes .entry)) verdict receipt (now (back .entry)) ⌝ }
 {
-    if mark != receipt {
+    if receipt != s.receipt {
         return h;
     }
     if !same(back, bytes) {
         return h;
     }
-    let mut next = h;
-    next.verdict = verdict;
-    next
+    ended(h, verdict)
+}
+
+// Code 26 from the machine, 24 from a plug; another readable frame leaves it waiting.
+fn react(s: Settings, h: Session, bytes: &[u8], f: Fields, back: &[u8]) -> Session
+    ensures { λ r. ⌜ r ≡ react s h (now (bytes .entry)) f (now (back .entry)) ⌝ }
+{
+    if h.verdict != 0 {
+        return h;
+    }
+    let code = f.code;
+    match code {
+        24 => returned(s, h, bytes, 2, f.receipt, back),
+        26 => returned(s, h, bytes, 1, f.receipt, back),
+        _ => h,
+    }
 }
 
 // The start: the record and the first frame.
 pub fn start(settings: Settings, bytes: &[u8], reply: &mut [u8]) -> Stepped
-    ensures { λ r. ⌜ Left (loopStart settings (now (bytes .entry)) (now (reply .entry))) r (now (reply .exit)) ⌝ }
+    ensures { λ r. ⌜ Leaves (loopStart settings (now (bytes .entry)) (now (reply .entry))) (r .session) (r .answer) tt (now (reply .exit)) ⌝ }
 {
-    let begun = Session {
-        sent: 1,
-        repeats: 0,
-        verdict: 0,
-    };
-    let refusal = barred(settings.repeats, bytes, begun, reply.len());
+    let begun = begun();
+    let refusal = refusal(settings, begun, bytes.len(), reply.len());
     if refusal != 0 {
         return refused(begun, refusal);
     }
-    send(begun, settings.receipt, bytes, reply)
+    goes_out(settings, begun, bytes, reply)
 }
 
 // A step on a frame. The reply buffer stays as it is.
@@ -143,49 +191,34 @@ pub fn frame(
     frame: &[u8],
     reply: &[u8],
 ) -> Stepped
-    ensures { λ r. ⌜ Left (loopFrame settings session (now (bytes .entry)) (now (frame .entry)) (now (reply .entry))) r (now (reply .entry)) ⌝ }
+    ensures { λ r. ⌜ Leaves (loopFrame settings session (now (bytes .entry)) (now (frame .entry)) (now (reply .entry))) (r .session) (r .answer) tt (now (reply .entry)) ⌝ }
 {
-    let refusal = barred(settings.repeats, bytes, session, reply.len());
+    let refusal = refusal(settings, session, bytes.len(), reply.len());
     if refusal != 0 {
         return refused(session, refusal);
     }
-    let f = fields::read(frame);
+    let f = reader::read(frame);
     if f.refusal != 0 {
         return refused(session, f.refusal);
     }
-    if session.verdict != 0 {
-        return held(session);
-    }
     let at = f.data_at;
     let end = at + f.data_length;
-    let back = &frame[at..end];
-    let receipt = settings.receipt;
-    let code = f.code;
-    match code {
-        24 => held(returned(2, session, receipt, bytes, f.receipt, back)),
-        26 => held(returned(1, session, receipt, bytes, f.receipt, back)),
-        _ => held(session),
-    }
+    sends_nothing(react(settings, session, bytes, f, &frame[at..end]))
 }
 
 // A step on a timer: the frame again if fewer than R repeats are used, otherwise given up.
 pub fn timer(settings: Settings, session: Session, bytes: &[u8], reply: &mut [u8]) -> Stepped
-    ensures { λ r. ⌜ Left (loopTimer settings session (now (bytes .entry)) (now (reply .entry))) r (now (reply .exit)) ⌝ }
+    ensures { λ r. ⌜ Leaves (loopTimer settings session (now (bytes .entry)) (now (reply .entry))) (r .session) (r .answer) tt (now (reply .exit)) ⌝ }
 {
-    let refusal = barred(settings.repeats, bytes, session, reply.len());
+    let refusal = refusal(settings, session, bytes.len(), reply.len());
     if refusal != 0 {
         return refused(session, refusal);
     }
     if session.verdict != 0 {
-        return held(session);
+        return sends_nothing(session);
     }
-    let mut next = session;
     if settings.repeats <= session.repeats {
-        next.verdict = 3;
-        return held(next);
+        return sends_nothing(ended(session, 3));
     }
-    next.sent = session.sent + 1;
-    next.repeats = session.repeats + 1;
-    next.verdict = 0;
-    send(next, settings.receipt, bytes, reply)
+    goes_out(settings, repeated(session), bytes, reply)
 }

@@ -1,25 +1,30 @@
 use borrow.Author.Needs.{needs}
-use Prim.Native.Nat.{_+_, _-_}
-use mathlib.Core.Path.{_≡_, refl}
+use Prim.Native.Nat.{_+_, _-_, _≤_}
+use mathlib.Core.Path.{_≡_}
+use lib.ListN.{length, take, drop, length-take, length-drop}
 use native.Mathlib.Omega.{arith}
-use borrow.Author.Tests.{eq-eqb, ne-eqb}
-use Rattle.fields.specs.Stated.{said}
-use Rattle.dump.specs.Dump.{dumpFrame, onReading}
-use Rattle.dump.specs.Laws.{called-by, underway, unread, over, on-offer, on-data, on-other}
+use Rattle.message.specs.Laws.{fields-inside}
+use Rattle.step.specs.Laws.{frame-call-refused, frame-refused}
+use Rattle.dump.specs.Dump.{onFrame}
+use Rattle.dump.specs.Laws.{Accepted, accepted, ready-frame, stepped}
 use Rattle.dump.proofs.frame.Statement.{statement}
 use Rattle.dump.proofs.frame.Tie as tie
 
--- the call is not refused and its frame is read: what the frame's numbers state decides
-went : (c : tie.After-read)
+-- the frame was read: its variable part lies within it, and the call is accepted
+inside : (c : tie.After-read)
     → let a = c .before .before .before .before .before .before .args in
-    dumpFrame (a .settings) (a .session) (a .frame .now) (a .buffer .now) (a .reply .now)
-    ≡ onReading (a .settings) (a .session) (a .buffer .now) (a .reply .now) (said (a .frame .now) (c .read .result))
-went c =
-    let a = c .before .before .before .before .before .before .args in
-    rw (called-by (a .settings) (a .session) (a .buffer .now) (a .reply .now) _ _ (c .before .before .barred .ensures), eq-eqb _ _ (c .before .if1 .left), ← c .read .ensures .says)
+    c .read .result .«data_at» + c .read .result .«data_length» ≤ length (a .frame .now)
+inside c = rw (c .read .ensures) (fields-inside (c .before .before .before .before .before .before .args .frame .now))
 
-barred-requires : tie.Need-barred-requires
-barred-requires c κs = search needs
+allowed : (c : tie.After-read)
+    → let a = c .before .before .before .before .before .before .args in
+    Accepted (a .settings) (a .session) (length (a .buffer .now)) (length (a .reply .now))
+allowed c =
+    let a = c .before .before .before .before .before .before .args in
+    accepted (a .settings) (a .session) (length (a .buffer .now)) (length (a .reply .now)) (rw (c .before .before .refusal .ensures) at (c .before .if1 .left))
+
+refusal-requires : tie.Need-refusal-requires
+refusal-requires c κs = search needs
 
 refused-requires : tie.Need-refused-requires
 refused-requires c κs = search needs
@@ -27,8 +32,9 @@ refused-requires c κs = search needs
 returns : tie.Need-returns
 returns c =
     let a = c .before .before .before .before .before .before .args in
-    rw (called-by (a .settings) (a .session) (a .buffer .now) (a .reply .now) _ _ (c .before .before .barred .ensures), ne-eqb _ _ (c .before .if1 .taken))
-    (c .refused .ensures .0, c .refused .ensures .1, refl, refl)
+    let some = rw (c .before .before .refusal .ensures) at (c .before .if1 .taken) in
+    rw (c .refused .ensures .0, c .refused .ensures .1, c .before .before .refusal .ensures)
+    (frame-call-refused _ (a .frame .now) (a .session) (a .buffer .now) (a .reply .now) (onFrame (a .settings) (a .session) (a .frame .now) (a .buffer .now)) some)
 
 read-requires : tie.Need-read-requires
 read-requires c κs = search needs
@@ -38,98 +44,82 @@ refused-requires-2 c κs = search needs
 
 returns-2 : tie.Need-returns-2
 returns-2 c =
-    let t = c .before .if2 .taken in
-    rw (went (c .before .before .before), unread) (c .refused2 .ensures .0, c .refused2 .ensures .1, refl, refl)
+    let went = c .before .before .before .before .before in
+    let a = went .before .before .before .before .args in
+    let none = rw (went .refusal .ensures) at (c .before .before .before .before .if1 .left) in
+    let read = c .before .before .before .read .ensures in
+    rw (c .refused2 .ensures .0, c .refused2 .ensures .1, read)
+    (frame-refused _ (a .frame .now) (a .session) (a .buffer .now) (a .reply .now) (onFrame (a .settings) (a .session) (a .frame .now) (a .buffer .now)) none (rw read at (c .before .if2 .taken)))
 
-ignored-requires : tie.Need-ignored-requires
-ignored-requires c κs = search needs
-
-returns-3 : tie.Need-returns-3
-returns-3 c =
-    let t = c .before .before .before .if2 .left in
-    let v = c .before .if3 .taken in
-    rw (went (c .before .before .before .before .before), over) (c .ignored .ensures .0, c .ignored .ensures .1, refl, refl)
-
-on-offer-requires : tie.Need-on-offer-requires
-on-offer-requires c κs =
-    let a = c .before .before .before .before .before .before .before .before .before .before .before .before .args in
-    underway (a .settings) (a .session) _ _ _ (c .before .before .before .before .before .before .before .before .barred .ensures) (c .before .before .before .before .before .before .before .if1 .left) (c .before .before .if3 .left) .0
+react-requires : tie.Need-react-requires
+react-requires c κs = search needs
 
 add-end : tie.Need-add-end
-add-end c = omega (arith, c .before .before .before .before .before .before .read .ensures .inside, c .before .before .before .before .before .before .before .before .before .before .before .before .good)
+add-end c = omega (arith, inside (c .before .before .before .before), c .before .before .before .before .before .before .before .before .before .before .good)
 
-sub-on-data : tie.Need-sub-on-data
-sub-on-data c = search needs
+sub-fill : tie.Need-sub-fill
+sub-fill c = search needs
 
-part-on-data-start : tie.Need-part-on-data-start
-part-on-data-start c = search needs
+part-fill-start : tie.Need-part-fill-start
+part-fill-start c = search needs
 
-part-on-data-end : tie.Need-part-on-data-end
-part-on-data-end c = search needs
+part-fill-end : tie.Need-part-fill-end
+part-fill-end c = omega (arith, inside (c .before .before .before .before))
 
-on-data-requires : tie.Need-on-data-requires
-on-data-requires c κs =
-    let a = c .before .before .before .before .before .before .before .before .before .before .before .before .before .before .before .args in
-    underway (a .settings) (a .session) _ _ _ (c .before .before .before .before .before .before .before .before .before .before .before .barred .ensures) (c .before .before .before .before .before .before .before .before .before .before .if1 .left) (c .before .before .before .before .before .if3 .left)
+fill-requires : tie.Need-fill-requires
+fill-requires c κs =
+    let read = c .before .before .before .before .before .before in
+    let f = read .read .result in
+    let a = read .before .before .before .before .before .before .args in
+    let size : f .«data_at» + f .«data_length» - f .«data_at» ≡ f .«data_length» = omega arith in
+    let count : length (take (f .«data_length») (drop (f .«data_at») (a .frame .now))) ≡ f .«data_length» =
+    simp (length-take, length-drop) (omega (arith, inside read)) in
+    rw (size, count, c .before .before .before .react .ensures) (ready-frame (a .settings) (a .session) _ _ (allowed read) f .1)
 
-ignored-requires-2 : tie.Need-ignored-requires-2
-ignored-requires-2 c κs = search needs
+tell-requires : tie.Need-tell-requires
+tell-requires c κs =
+    let went = c .before .before .before .before .before .before .before in
+    let read = went .before .before .before in
+    let a = read .before .before .before .before .before .before .args in
+    rw (went .react .ensures) (ready-frame (a .settings) (a .session) _ _ (allowed read) (read .read .result) .0)
 
 same-length : tie.Need-same-length
 same-length c = search needs
 
-returns-4 : tie.Need-returns-4
-returns-4 c =
-    let t = c .before .before .before .before .before .before .before .if2 .left in
-    let v = c .before .before .before .before .before .if3 .left in
-    let k = c .before .before .before .before .match .keys1 in
-    rw (went (c .before .before .before .before .before .before .before .before .before), on-offer) (c .before .before .on-offer .ensures (c .before .before .before .before .before .before .before .before .before .before .before .before .before .before .before .args .buffer .now))
-
 same-length-2 : tie.Need-same-length-2
 same-length-2 c = search needs
 
-same-length-3 : tie.Need-same-length-3
-same-length-3 c = search needs
-
-returns-5 : tie.Need-returns-5
-returns-5 c =
-    let f = c .before .before .before .before .before .before .before .before .before .before .before .before .before .before .read .result in
-    let t = c .before .before .before .before .before .before .before .before .before .before .before .before .if2 .left in
-    let v = c .before .before .before .before .before .before .before .before .before .before .if3 .left in
-    let k = c .before .before .before .before .before .before .before .before .before .match .keys2 in
+returns-3 : tie.Need-returns-3
+returns-3 c =
+    let went = c .before .before .before .before .before .before in
+    let read = went .before .before .before .before .before .before .before in
+    let react = went .before .before .before .before .react in
+    let fill = went .fill in
+    let tell = c .before .before .tell in
+    let f = read .read .result in
+    let a = read .before .before .before .before .before .before .args in
+    let none = rw (read .before .before .refusal .ensures) at (read .before .if1 .left) in
     let size : f .«data_at» + f .«data_length» - f .«data_at» ≡ f .«data_length» = omega arith in
-    rw (went (c .before .before .before .before .before .before .before .before .before .before .before .before .before .before), on-data) (rw size at (c .before .before .before .before .on-data .ensures))
-
-returns-6 : tie.Need-returns-6
-returns-6 c =
-    let t = c .before .before .before .before .if2 .left in
-    let v = c .before .before .if3 .left in
-    let k = c .before .match .rest .0 .1 in
-    let l = c .before .match .rest .1 in
-    rw (went (c .before .before .before .before .before .before), on-other) (c .ignored2 .ensures .0, c .ignored2 .ensures .1, refl, refl)
+    stepped (a .settings) (a .session) (a .frame .now) (a .buffer .now) (a .reply .now) f (react .result) (fill .last .1 .1 .1 .0) none (read .read .ensures)
+    (went .before .before .before .before .before .if2 .left) (react .ensures) (rw size at (fill .ensures)) (tell .ensures (fill .last .1 .1 .1 .0))
 
 pub frame-spec : {M : Type 1} → statement M
 frame-spec =
     tie.close
     (tie.spec
-    barred-requires
+    refusal-requires
     refused-requires
     returns
     read-requires
     refused-requires-2
     returns-2
-    ignored-requires
-    returns-3
-    on-offer-requires
+    react-requires
     add-end
-    sub-on-data
-    part-on-data-start
-    part-on-data-end
-    on-data-requires
-    ignored-requires-2
+    sub-fill
+    part-fill-start
+    part-fill-end
+    fill-requires
+    tell-requires
     same-length
-    returns-4
     same-length-2
-    same-length-3
-    returns-5
-    returns-6)
+    returns-3)

@@ -16,7 +16,11 @@ four : (c : tie.Else4)
     let h = c .before .before .before .before .before .before .before .before .before .before .args .h in
     sound s h ≡ (leb (h .sent) ((h .replies + 1) * (s .repeats + 1) + 1) && leb (h .waiting) 1 && cond (eqb (h .waiting) 1) (blank h) true
     && cond (eqb (h .verdict) 1) (eqb (h .filled) (s .length)) (not (eqb (h .filled) (s .length))))
-four c = rw (le-leb _ _ (c .before .before .before .before .before .before .before .before .if1 .left), le-leb _ _ (c .before .before .before .before .before .if2 .left), le-leb _ _ (c .before .before .if3 .left), le-leb _ _ (c .if4 .left))
+four c =
+    let three = c .before .before in
+    let two = three .before .before .before in
+    let one = two .before .before .before in
+    rw (le-leb _ _ (one .if1 .left), le-leb _ _ (two .if2 .left), le-leb _ _ (three .if3 .left), le-leb _ _ (c .if4 .left))
 
 returns : tie.Need-returns
 returns c = rw (lt-leb _ _ (c .if1 .taken))
@@ -25,10 +29,16 @@ returns-2 : tie.Need-returns-2
 returns-2 c = rw (le-leb _ _ (c .before .before .before .if1 .left), lt-leb _ _ (c .if2 .taken))
 
 returns-3 : tie.Need-returns-3
-returns-3 c = rw (le-leb _ _ (c .before .before .before .before .before .before .if1 .left), le-leb _ _ (c .before .before .before .if2 .left), lt-leb _ _ (c .if3 .taken))
+returns-3 c =
+    let two = c .before .before .before in
+    rw (le-leb _ _ (two .before .before .before .if1 .left), le-leb _ _ (two .if2 .left), lt-leb _ _ (c .if3 .taken))
 
 returns-4 : tie.Need-returns-4
-returns-4 c = rw (le-leb _ _ (c .before .before .before .before .before .before .before .before .if1 .left), le-leb _ _ (c .before .before .before .before .before .if2 .left), le-leb _ _ (c .before .before .if3 .left), lt-leb _ _ (c .if4 .taken))
+returns-4 c =
+    let three = c .before .before in
+    let two = three .before .before .before in
+    let one = two .before .before .before in
+    rw (le-leb _ _ (one .if1 .left), le-leb _ _ (two .if2 .left), le-leb _ _ (three .if3 .left), lt-leb _ _ (c .if4 .taken))
 
 add-most : tie.Need-add-most
 add-most c = search needs
@@ -59,13 +69,21 @@ unstarted-requires : tie.Need-unstarted-requires
 unstarted-requires c κs = search needs
 
 returns-7 : tie.Need-returns-7
-returns-7 c = rw (four (c .before .before .before .before .before .before .before .before), le-leb _ _ (c .before .before .before .before .if5 .left), le-leb _ _ (c .before .before .if6 .left), ← c .before .unstarted .ensures, not-true (c .before .unstarted .result) (c .if7 .taken))
+returns-7 c =
+    let six = c .before .before in
+    let five = six .before .before in
+    let unstarted = c .before .unstarted in
+    rw (four (five .before .before .before .before), le-leb _ _ (five .if5 .left), le-leb _ _ (six .if6 .left), ← unstarted .ensures, not-true (unstarted .result) (c .if7 .taken))
 
 agrees-requires : tie.Need-agrees-requires
 agrees-requires c κs = search needs
 
 returns-8 : tie.Need-returns-8
-returns-8 c = rw (four (c .before .before .before .before .before .before .before .before .before), le-leb _ _ (c .before .before .before .before .before .if5 .left), le-leb _ _ (c .before .before .before .if6 .left), ← c .before .before .unstarted .ensures, not-false (c .before .before .unstarted .result) (c .before .if7 .left)) (c .agrees .ensures)
+returns-8 c =
+    let six = c .before .before .before in
+    let five = six .before .before in
+    let unstarted = c .before .before .unstarted in
+    rw (four (five .before .before .before .before), le-leb _ _ (five .if5 .left), le-leb _ _ (six .if6 .left), ← unstarted .ensures, not-false (unstarted .result) (c .before .if7 .left)) (c .agrees .ensures)
 
 pub sound-spec : {M : Type 1} → statement M
 sound-spec =

@@ -1,12 +1,14 @@
 use borrow.Author.Needs.{needs}
-use mathlib.Core.Path.{refl}
-use borrow.Author.Tests.{eq-eqb, ne-eqb}
-use Rattle.dump.specs.Laws.{called-by, underway}
+use lib.ListN.{length}
+use Rattle.step.specs.Laws.{call-refused, call-accepted}
+use Rattle.dump_next.specs.Next.{onTimer}
+use Rattle.dump.specs.Dump.{does}
+use Rattle.dump.specs.Laws.{accepted, ready-timer}
 use Rattle.dump.proofs.timer.Statement.{statement}
 use Rattle.dump.proofs.timer.Tie as tie
 
-barred-requires : tie.Need-barred-requires
-barred-requires c κs = search needs
+refusal-requires : tie.Need-refusal-requires
+refusal-requires c κs = search needs
 
 refused-requires : tie.Need-refused-requires
 refused-requires c κs = search needs
@@ -14,41 +16,39 @@ refused-requires c κs = search needs
 returns : tie.Need-returns
 returns c =
     let a = c .before .before .before .before .before .args in
-    rw (called-by (a .settings) (a .session) (a .buffer .now) (a .reply .now) _ _ (c .before .before .barred .ensures), ne-eqb _ _ (c .before .if1 .taken))
-    (c .refused .ensures .0, c .refused .ensures .1, refl, refl)
+    let some = rw (c .before .before .refusal .ensures) at (c .before .if1 .taken) in
+    rw (c .refused .ensures .0, c .refused .ensures .1, c .before .before .refusal .ensures)
+    (call-refused _ (a .session) (a .buffer .now) (a .reply .now) (does (a .settings) (onTimer (a .settings) (a .session)) (a .buffer .now)) some)
 
-ignored-requires : tie.Need-ignored-requires
-ignored-requires c κs = search needs
+on-timer-requires : tie.Need-on-timer-requires
+on-timer-requires c κs = search needs
 
-returns-2 : tie.Need-returns-2
-returns-2 c =
-    let a = c .before .before .before .before .before .before .before .args in
-    rw (called-by (a .settings) (a .session) (a .buffer .now) (a .reply .now) _ _ (c .before .before .before .before .barred .ensures), eq-eqb _ _ (c .before .before .before .if1 .left), ne-eqb _ _ (c .before .if2 .taken))
-    (c .ignored .ensures .0, c .ignored .ensures .1, refl, refl)
-
-timed-requires : tie.Need-timed-requires
-timed-requires c κs =
-    let a = c .before .before .before .before .before .before .before .args in
-    underway (a .settings) (a .session) _ _ _ (c .before .before .before .before .barred .ensures) (c .before .before .before .if1 .left) (c .before .if2 .left) .0
+tell-requires : tie.Need-tell-requires
+tell-requires c κs =
+    let a = c .before .before .before .before .before .before .args in
+    let none = rw (c .before .before .before .refusal .ensures) at (c .before .before .if1 .left) in
+    let allowed = accepted (a .settings) (a .session) (length (a .buffer .now)) (length (a .reply .now)) none in
+    rw (c .before .on-timer .ensures) (ready-timer (a .settings) (a .session) _ _ allowed)
 
 same-length : tie.Need-same-length
 same-length c = search needs
 
-returns-3 : tie.Need-returns-3
-returns-3 c =
-    let a = c .before .before .before .before .before .before .before .before .before .before .args in
-    rw (called-by (a .settings) (a .session) (a .buffer .now) (a .reply .now) _ _ (c .before .before .before .before .before .before .before .barred .ensures), eq-eqb _ _ (c .before .before .before .before .before .before .if1 .left), eq-eqb _ _ (c .before .before .before .before .if2 .left))
-    (c .before .before .timed .ensures (a .buffer .now))
+returns-2 : tie.Need-returns-2
+returns-2 c =
+    let went = c .before .before .before .before .before in
+    let a = went .before .before .before .before .args in
+    let none = rw (went .before .refusal .ensures) at (went .if1 .left) in
+    call-accepted _ (a .session) (a .buffer .now) (a .reply .now) (does (a .settings) (onTimer (a .settings) (a .session)) (a .buffer .now)) none
+    (rw (c .before .before .before .before .on-timer .ensures) at (c .before .before .tell .ensures (a .buffer .now)))
 
 pub timer-spec : {M : Type 1} → statement M
 timer-spec =
     tie.close
     (tie.spec
-    barred-requires
+    refusal-requires
     refused-requires
     returns
-    ignored-requires
-    returns-2
-    timed-requires
+    on-timer-requires
+    tell-requires
     same-length
-    returns-3)
+    returns-2)

@@ -1,25 +1,22 @@
 use borrow.Author.Needs.{needs}
-use Prim.Native.Nat.{_+_, _-_}
-use mathlib.Core.Path.{_≡_, refl, _∙_}
+use Prim.Native.Nat.{_+_, _-_, _≤_}
+use mathlib.Core.Path.{_≡_, refl}
+use lib.ListN.{length}
 use native.Mathlib.Omega.{arith}
-use borrow.Author.Tests.{eq-eqb, ne-eqb}
-use Rattle.fields.specs.Stated.{said}
-use Rattle.looptest.specs.Loop.{loopFrame, onReading}
-use Rattle.looptest.specs.Laws.{called-by, unread, over, on-plug, on-looped, on-other}
+use Rattle.message.specs.Laws.{fields-inside}
+use Rattle.step.specs.Laws.{frame-call-refused, frame-refused, frame-accepted}
+use Rattle.looptest.specs.Loop.{onFrame}
 use Rattle.looptest.proofs.frame.Statement.{statement}
 use Rattle.looptest.proofs.frame.Tie as tie
 
--- the call is not refused and its frame is read: what the frame's numbers state decides
-went : (c : tie.After-read)
+-- the frame was read: its variable part lies within it
+inside : (c : tie.After-read)
     → let a = c .before .before .before .before .before .before .args in
-    loopFrame (a .settings) (a .session) (a .bytes .now) (a .frame .now) (a .reply .now)
-    ≡ onReading (a .session) (a .settings .receipt) (a .bytes .now) (a .reply .now) (said (a .frame .now) (c .read .result))
-went c =
-    let a = c .before .before .before .before .before .before .args in
-    rw (called-by (a .settings .repeats) (a .bytes .now) (a .session) (a .reply .now) _ _ (c .before .before .barred .ensures), eq-eqb _ _ (c .before .if1 .left), ← c .read .ensures .says)
+    c .read .result .«data_at» + c .read .result .«data_length» ≤ length (a .frame .now)
+inside c = rw (c .read .ensures) (fields-inside (c .before .before .before .before .before .before .args .frame .now))
 
-barred-requires : tie.Need-barred-requires
-barred-requires c κs = search needs
+refusal-requires : tie.Need-refusal-requires
+refusal-requires c κs = search needs
 
 refused-requires : tie.Need-refused-requires
 refused-requires c κs = search needs
@@ -27,7 +24,9 @@ refused-requires c κs = search needs
 returns : tie.Need-returns
 returns c =
     let a = c .before .before .before .before .before .before .args in
-    rw (called-by (a .settings .repeats) (a .bytes .now) (a .session) (a .reply .now) _ _ (c .before .before .barred .ensures), ne-eqb _ _ (c .before .if1 .taken)) (c .refused .ensures .0, c .refused .ensures .1, refl)
+    let some = rw (c .before .before .refusal .ensures) at (c .before .if1 .taken) in
+    rw (c .refused .ensures .0, c .refused .ensures .1, c .before .before .refusal .ensures)
+    (frame-call-refused _ (a .frame .now) (a .session) tt (a .reply .now) (onFrame (a .settings) (a .session) (a .bytes .now) (a .frame .now)) some)
 
 read-requires : tie.Need-read-requires
 read-requires c κs = search needs
@@ -37,93 +36,58 @@ refused-requires-2 c κs = search needs
 
 returns-2 : tie.Need-returns-2
 returns-2 c =
-    let t = c .before .if2 .taken in
-    rw (went (c .before .before .before), unread) (c .refused2 .ensures .0, c .refused2 .ensures .1, refl)
+    let went = c .before .before .before .before .before in
+    let a = went .before .before .before .before .args in
+    let none = rw (went .refusal .ensures) at (c .before .before .before .before .if1 .left) in
+    let read = c .before .before .before .read .ensures in
+    rw (c .refused2 .ensures .0, c .refused2 .ensures .1, read)
+    (frame-refused _ (a .frame .now) (a .session) tt (a .reply .now) (onFrame (a .settings) (a .session) (a .bytes .now) (a .frame .now)) none (rw read at (c .before .if2 .taken)))
 
-held-requires : tie.Need-held-requires
-held-requires c κs = search needs
+add-end : tie.Need-add-end
+add-end c = omega (arith, inside (c .before .before .before), c .before .before .before .before .before .before .before .before .before .good)
+
+sub-react : tie.Need-sub-react
+sub-react c = search needs
+
+part-react-start : tie.Need-part-react-start
+part-react-start c = search needs
+
+part-react-end : tie.Need-part-react-end
+part-react-end c = omega (arith, inside (c .before .before .before))
+
+react-requires : tie.Need-react-requires
+react-requires c κs = search needs
+
+sends-nothing-requires : tie.Need-sends-nothing-requires
+sends-nothing-requires c κs = search needs
 
 returns-3 : tie.Need-returns-3
 returns-3 c =
-    let t = c .before .before .before .if2 .left in
-    let v = c .before .if3 .taken in
-    rw (went (c .before .before .before .before .before), over) (c .held .ensures .0, c .held .ensures .1, refl)
-
-add-end : tie.Need-add-end
-add-end c = omega (arith, c .before .before .before .before .before .read .ensures .inside, c .before .before .before .before .before .before .before .before .before .before .before .good)
-
-sub-back : tie.Need-sub-back
-sub-back c = search needs
-
-part-back-start : tie.Need-part-back-start
-part-back-start c = search needs
-
-part-back-end : tie.Need-part-back-end
-part-back-end c = search needs
-
-returned-requires : tie.Need-returned-requires
-returned-requires c κs = search needs
-
-held-requires-2 : tie.Need-held-requires-2
-held-requires-2 c κs = search needs
-
-returned-requires-2 : tie.Need-returned-requires-2
-returned-requires-2 c κs = search needs
-
-held-requires-3 : tie.Need-held-requires-3
-held-requires-3 c κs = search needs
-
-held-requires-4 : tie.Need-held-requires-4
-held-requires-4 c κs = search needs
-
-returns-4 : tie.Need-returns-4
-returns-4 c =
-    let f = c .before .before .before .before .before .before .before .before .before .read .result in
-    let t = c .before .before .before .before .before .before .before .if2 .left in
-    let v = c .before .before .before .before .before .if3 .left in
-    let k = c .before .before .match .keys1 in
+    let went = c .before .before .before .before .before .before in
+    let a = went .before .before .before .before .before .before .args in
+    let none = rw (went .before .before .refusal .ensures) at (went .before .if1 .left) in
+    let read = went .read in
+    let f = read .result in
     let size : f .«data_at» + f .«data_length» - f .«data_at» ≡ f .«data_length» = omega arith in
-    rw (went (c .before .before .before .before .before .before .before .before .before), on-plug) (c .held2 .ensures .0 ∙ (rw size at (c .before .returned .ensures)), c .held2 .ensures .1, refl)
-
-returns-5 : tie.Need-returns-5
-returns-5 c =
-    let f = c .before .before .before .before .before .before .before .before .before .read .result in
-    let t = c .before .before .before .before .before .before .before .if2 .left in
-    let v = c .before .before .before .before .before .if3 .left in
-    let k = c .before .before .match .keys2 in
-    let size : f .«data_at» + f .«data_length» - f .«data_at» ≡ f .«data_length» = omega arith in
-    rw (went (c .before .before .before .before .before .before .before .before .before), on-looped) (c .held3 .ensures .0 ∙ (rw size at (c .before .returned2 .ensures)), c .held3 .ensures .1, refl)
-
-returns-6 : tie.Need-returns-6
-returns-6 c =
-    let t = c .before .before .before .before .before .before .if2 .left in
-    let v = c .before .before .before .before .if3 .left in
-    let r = c .before .before .before .before .before .before .before .before .read .ensures in
-    let k = c .before .match .rest .0 .1 in
-    let l = c .before .match .rest .1 in
-    rw (went (c .before .before .before .before .before .before .before .before), on-other) (c .held4 .ensures .0, c .held4 .ensures .1, refl)
+    let next = rw (size, read .ensures) at (c .before .react .ensures) in
+    rw (c .sends-nothing .ensures .0, c .sends-nothing .ensures .1, next)
+    (frame-accepted _ (a .frame .now) (a .session) tt (a .reply .now) (onFrame (a .settings) (a .session) (a .bytes .now) (a .frame .now)) none
+    (rw (read .ensures) at (c .before .before .before .before .if2 .left)) (refl, refl, refl, refl))
 
 pub frame-spec : {M : Type 1} → statement M
 frame-spec =
     tie.close
     (tie.spec
-    barred-requires
+    refusal-requires
     refused-requires
     returns
     read-requires
     refused-requires-2
     returns-2
-    held-requires
-    returns-3
     add-end
-    sub-back
-    part-back-start
-    part-back-end
-    returned-requires
-    held-requires-2
-    returned-requires-2
-    held-requires-3
-    held-requires-4
-    returns-4
-    returns-5
-    returns-6)
+    sub-react
+    part-react-start
+    part-react-end
+    react-requires
+    sends-nothing-requires
+    returns-3)

@@ -12,8 +12,13 @@ same-requires c κs = search needs
 returns-2 : tie.Need-returns-2
 returns-2 c = rw (eq-eqb _ _ (c .before .before .if1 .left), ← c .before .same .ensures, not-true (c .before .same .result) (c .if2 .taken))
 
+ended-requires : tie.Need-ended-requires
+ended-requires c κs = search needs
+
 returns-3 : tie.Need-returns-3
-returns-3 c = rw (eq-eqb _ _ (c .before .before .if1 .left), ← c .before .same .ensures, not-false (c .before .same .result) (c .if2 .left))
+returns-3 c =
+    let same = c .before .before .same in
+    rw (eq-eqb _ _ (c .before .before .before .if1 .left), ← same .ensures, not-false (same .result) (c .before .if2 .left)) (c .ended .ensures)
 
 pub returned-spec : {M : Type 1} → statement M
-returned-spec = tie.close (tie.spec returns same-requires returns-2 returns-3)
+returned-spec = tie.close (tie.spec returns same-requires returns-2 ended-requires returns-3)

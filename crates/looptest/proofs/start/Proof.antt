@@ -1,38 +1,54 @@
 use borrow.Author.Needs.{needs}
-use mathlib.Core.Path.{refl}
 use lib.ListN.{length}
-use Rattle.looptest.specs.Loop.{begun}
-use borrow.Author.Tests.{eq-eqb, ne-eqb}
-use Rattle.looptest.specs.Laws.{start-by, accepted}
+use Rattle.step.specs.Laws.{call-refused, call-accepted}
+use Rattle.looptest.specs.Loop.{begun, refusal, goesOut}
+use Rattle.looptest.specs.Laws.{accepted}
 use Rattle.looptest.proofs.start.Statement.{statement}
 use Rattle.looptest.proofs.start.Tie as tie
 
-barred-requires : tie.Need-barred-requires
-barred-requires c κs = search needs
+begun-requires : tie.Need-begun-requires
+begun-requires c κs = search needs
+
+refusal-requires : tie.Need-refusal-requires
+refusal-requires c κs = search needs
 
 refused-requires : tie.Need-refused-requires
 refused-requires c κs = search needs
 
 returns : tie.Need-returns
 returns c =
-    let a = c .before .before .before .before .before .args in
-    rw (start-by (a .settings .repeats) (a .bytes .now) (a .reply .now) _ _ (c .before .before .barred .ensures), ne-eqb _ _ (c .before .if1 .taken)) (c .refused .ensures .0, c .refused .ensures .1, refl)
+    let a = c .before .before .before .before .before .before .args in
+    let begins = c .before .before .before .begun .ensures in
+    let refuses = rw begins at (c .before .before .refusal .ensures) in
+    rw (c .refused .ensures .0, c .refused .ensures .1, refuses, begins)
+    (call-refused (refusal (a .settings) begun (length (a .bytes .now)) (length (a .reply .now))) begun tt (a .reply .now) (goesOut (a .settings) begun (a .bytes .now)) (rw refuses at (c .before .if1 .taken)))
 
-send-requires : tie.Need-send-requires
-send-requires c κs =
-    let a = c .before .before .before .before .before .args in
-    let p = accepted (a .settings .repeats) (a .bytes .now) begun (length (a .reply .now)) _ (c .before .before .barred .ensures) (c .before .if1 .left) in
-    (p .short, p .room)
+goes-out-requires : tie.Need-goes-out-requires
+goes-out-requires c κs =
+    let a = c .before .before .before .before .before .before .args in
+    let none = rw (c .before .before .refusal .ensures, c .before .before .before .begun .ensures) at (c .before .if1 .left) in
+    let allowed = accepted (a .settings) begun (length (a .bytes .now)) (length (a .reply .now)) none in
+    (allowed .short, allowed .room)
 
 same-length : tie.Need-same-length
 same-length c = search needs
 
 returns-2 : tie.Need-returns-2
 returns-2 c =
-    let a = c .before .before .before .before .before .before .before .before .args in
-    rw (start-by (a .settings .repeats) (a .bytes .now) (a .reply .now) _ _ (c .before .before .before .before .before .barred .ensures), eq-eqb _ _ (c .before .before .before .before .if1 .left)) (c .before .before .send .ensures)
+    let went = c .before .before .before .before .before in
+    let a = went .before .before .before .before .args in
+    let begins = went .before .begun .ensures in
+    let none = rw (went .refusal .ensures, begins) at (c .before .before .before .before .if1 .left) in
+    call-accepted (refusal (a .settings) begun (length (a .bytes .now)) (length (a .reply .now))) begun tt (a .reply .now) (goesOut (a .settings) begun (a .bytes .now)) none (rw begins at (c .before .before .goes-out .ensures))
 
 pub start-spec : {M : Type 1} → statement M
 start-spec =
     tie.close
-    (tie.spec barred-requires refused-requires returns send-requires same-length returns-2)
+    (tie.spec
+    begun-requires
+    refusal-requires
+    refused-requires
+    returns
+    goes-out-requires
+    same-length
+    returns-2)

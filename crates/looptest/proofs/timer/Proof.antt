@@ -1,14 +1,24 @@
 use borrow.Author.Needs.{needs}
 use mathlib.Core.Path.{refl}
-use native.Mathlib.Omega.{arith}
 use lib.ListN.{length}
+use native.Mathlib.Omega.{arith}
 use borrow.Author.Tests.{eq-eqb, ne-eqb, lt-ltb, le-ltb}
-use Rattle.looptest.specs.Laws.{called-by, accepted}
+use Rattle.step.specs.Laws.{call-refused, call-accepted}
+use Rattle.looptest.specs.Loop.{onTimer}
+use Rattle.looptest.specs.Laws.{Accepted, accepted}
 use Rattle.looptest.proofs.timer.Statement.{statement}
 use Rattle.looptest.proofs.timer.Tie as tie
 
-barred-requires : tie.Need-barred-requires
-barred-requires c κs = search needs
+-- the call is accepted
+allowed : (c : tie.Else1)
+    → let a = c .before .before .before .before .args in
+    Accepted (a .session) (length (a .bytes .now)) (length (a .reply .now))
+allowed c =
+    let a = c .before .before .before .before .args in
+    accepted (a .settings) (a .session) (length (a .bytes .now)) (length (a .reply .now)) (rw (c .before .refusal .ensures) at (c .if1 .left))
+
+refusal-requires : tie.Need-refusal-requires
+refusal-requires c κs = search needs
 
 refused-requires : tie.Need-refused-requires
 refused-requires c κs = search needs
@@ -16,36 +26,42 @@ refused-requires c κs = search needs
 returns : tie.Need-returns
 returns c =
     let a = c .before .before .before .before .before .args in
-    rw (called-by (a .settings .repeats) (a .bytes .now) (a .session) (a .reply .now) _ _ (c .before .before .barred .ensures), ne-eqb _ _ (c .before .if1 .taken)) (c .refused .ensures .0, c .refused .ensures .1, refl)
+    let some = rw (c .before .before .refusal .ensures) at (c .before .if1 .taken) in
+    rw (c .refused .ensures .0, c .refused .ensures .1, c .before .before .refusal .ensures)
+    (call-refused _ (a .session) tt (a .reply .now) (onTimer (a .settings) (a .session) (a .bytes .now)) some)
 
-held-requires : tie.Need-held-requires
-held-requires c κs = search needs
+sends-nothing-requires : tie.Need-sends-nothing-requires
+sends-nothing-requires c κs = search needs
 
 returns-2 : tie.Need-returns-2
 returns-2 c =
     let a = c .before .before .before .before .before .before .before .args in
-    rw (called-by (a .settings .repeats) (a .bytes .now) (a .session) (a .reply .now) _ _ (c .before .before .before .before .barred .ensures), eq-eqb _ _ (c .before .before .before .if1 .left), ne-eqb _ _ (c .before .if2 .taken)) (c .held .ensures .0, c .held .ensures .1, refl)
+    let none = rw (c .before .before .before .before .refusal .ensures) at (c .before .before .before .if1 .left) in
+    rw (c .sends-nothing .ensures .0, c .sends-nothing .ensures .1)
+    (call-accepted _ (a .session) tt (a .reply .now) (onTimer (a .settings) (a .session) (a .bytes .now)) none (rw (ne-eqb _ _ (c .before .if2 .taken)) (refl, refl, refl, refl)))
 
-held-requires-2 : tie.Need-held-requires-2
-held-requires-2 c κs = search needs
+ended-requires : tie.Need-ended-requires
+ended-requires c κs = search needs
+
+sends-nothing-requires-2 : tie.Need-sends-nothing-requires-2
+sends-nothing-requires-2 c κs = search needs
 
 returns-3 : tie.Need-returns-3
 returns-3 c =
-    let a = c .before .before .before .before .before .before .before .before .before .before .args in
-    rw (called-by (a .settings .repeats) (a .bytes .now) (a .session) (a .reply .now) _ _ (c .before .before .before .before .before .before .before .barred .ensures), eq-eqb _ _ (c .before .before .before .before .before .before .if1 .left), eq-eqb _ _ (c .before .before .before .before .if2 .left), le-ltb _ _ (c .before .if3 .taken)) (c .held2 .ensures .0, c .held2 .ensures .1, refl)
+    let went = c .before .before .before .before .before in
+    let a = went .before .before .before .before .before .before .args in
+    let none = rw (went .before .before .before .refusal .ensures) at (went .before .before .if1 .left) in
+    let running = eq-eqb _ _ (went .if2 .left) in
+    rw (c .sends-nothing2 .ensures .0, c .sends-nothing2 .ensures .1, c .before .ended .ensures)
+    (call-accepted _ (a .session) tt (a .reply .now) (onTimer (a .settings) (a .session) (a .bytes .now)) none
+    (rw (running, le-ltb _ _ (c .before .before .if3 .taken)) (refl, refl, refl, refl)))
 
-add-next : tie.Need-add-next
-add-next c =
-    let a = c .before .before .before .before .before .before .before .before .before .before .args in
-    omega (arith, accepted (a .settings .repeats) (a .bytes .now) (a .session) (length (a .reply .now)) _ (c .before .before .before .before .before .before .before .barred .ensures) (c .before .before .before .before .before .before .if1 .left) .sent)
+repeated-requires : tie.Need-repeated-requires
+repeated-requires c κs = omega (arith, allowed (c .before .before .before .before .before))
 
-add-next-2 : tie.Need-add-next-2
-add-next-2 c = search needs
-
-send-requires : tie.Need-send-requires
-send-requires c κs =
-    let a = c .before .before .before .before .before .before .before .before .before .before .before .before .args in
-    let p = accepted (a .settings .repeats) (a .bytes .now) (a .session) (length (a .reply .now)) _ (c .before .before .before .before .before .before .before .before .before .barred .ensures) (c .before .before .before .before .before .before .before .before .if1 .left) in
+goes-out-requires : tie.Need-goes-out-requires
+goes-out-requires c κs =
+    let p = allowed (c .before .before .before .before .before .before .before) in
     (p .short, p .room)
 
 same-length : tie.Need-same-length
@@ -53,22 +69,26 @@ same-length c = search needs
 
 returns-4 : tie.Need-returns-4
 returns-4 c =
-    let a = c .before .before .before .before .before .before .before .before .before .before .before .before .before .before .before .args in
-    rw (called-by (a .settings .repeats) (a .bytes .now) (a .session) (a .reply .now) _ _ (c .before .before .before .before .before .before .before .before .before .before .before .before .barred .ensures), eq-eqb _ _ (c .before .before .before .before .before .before .before .before .before .before .before .if1 .left), eq-eqb _ _ (c .before .before .before .before .before .before .before .before .before .if2 .left), lt-ltb _ _ (c .before .before .before .before .before .before .if3 .left)) (c .before .before .send .ensures)
+    let went = c .before .before .before .before .before in
+    let a = went .before .before .before .before .before .before .before .before .before .args in
+    let none = rw (went .before .before .before .before .before .before .refusal .ensures) at (went .before .before .before .before .before .if1 .left) in
+    let running = eq-eqb _ _ (went .before .before .before .if2 .left) in
+    call-accepted _ (a .session) tt (a .reply .now) (onTimer (a .settings) (a .session) (a .bytes .now)) none
+    (rw (running, lt-ltb _ _ (went .if3 .left)) (rw (c .before .before .before .before .repeated .ensures) at (c .before .before .goes-out .ensures)))
 
 pub timer-spec : {M : Type 1} → statement M
 timer-spec =
     tie.close
     (tie.spec
-    barred-requires
+    refusal-requires
     refused-requires
     returns
-    held-requires
+    sends-nothing-requires
     returns-2
-    held-requires-2
+    ended-requires
+    sends-nothing-requires-2
     returns-3
-    add-next
-    add-next-2
-    send-requires
+    repeated-requires
+    goes-out-requires
     same-length
     returns-4)
