@@ -1,0 +1,148 @@
+// Calls that include/mop.h declares: frames and image files, for a line driver in C.
+ghost use mathlib.Core.Path.{_≡_};
+ghost use Rattle.octets.specs.Lay.{Came};
+ghost use Rattle.message.specs.Message.{memoryLoadTransfer, memoryLoad, requestProgram, requestLoad, requestDump, requestDumpService, dumpData, dumpComplete, volunteer, parameters, loopData, loopedData};
+ghost use Rattle.message.specs.Read.{fields};
+ghost use Rattle.message.specs.Write.{write};
+ghost use Rattle.image.specs.Image.{checked, found};
+use image::Image;
+use image::Segment;
+use message::Fields;
+use octets::Written;
+
+// A frame's fields: mop_fields of the header.
+#[no_mangle]
+pub extern "C" fn mop_read(frame: &[u8]) -> Fields
+    ensures { λ r. ⌜ r ≡ fields (now (frame .entry)) ⌝ }
+{
+    reader::read(frame)
+}
+
+// A writer for each code. Its answer is mop_written of the header.
+
+#[no_mangle]
+pub extern "C" fn mop_write_load_transfer(
+    number: u8,
+    address: u32,
+    bytes: &[u8],
+    transfer: u32,
+    out: &mut [u8],
+) -> Written
+    ensures { λ r. ⌜ Came (write (memoryLoadTransfer number address (now (bytes .entry)) transfer) (now (out .entry))) r (now (out .exit)) ⌝ }
+{
+    writer::memory_load_transfer(number, address, bytes, transfer, out)
+}
+
+#[no_mangle]
+pub extern "C" fn mop_write_load(number: u8, address: u32, bytes: &[u8], out: &mut [u8]) -> Written
+    ensures { λ r. ⌜ Came (write (memoryLoad number address (now (bytes .entry))) (now (out .entry))) r (now (out .exit)) ⌝ }
+{
+    writer::memory_load(number, address, bytes, out)
+}
+
+#[no_mangle]
+pub extern "C" fn mop_write_request_program(
+    device: u8,
+    format: u8,
+    program: u8,
+    form: u8,
+    id: &[u8],
+    processor: u8,
+    info: &[u8],
+    out: &mut [u8],
+) -> Written
+    ensures { λ r. ⌜ Came (write (requestProgram device format program form (now (id .entry)) processor (now (info .entry))) (now (out .entry))) r (now (out .exit)) ⌝ }
+{
+    writer_listed::request_program(device, format, program, form, id, processor, info, out)
+}
+
+#[no_mangle]
+pub extern "C" fn mop_write_request_load(number: u8, error: u8, out: &mut [u8]) -> Written
+    ensures { λ r. ⌜ Came (write (requestLoad number error) (now (out .entry))) r (now (out .exit)) ⌝ }
+{
+    writer::request_load(number, error, out)
+}
+
+#[no_mangle]
+pub extern "C" fn mop_write_request_dump(address: u32, count: u16, out: &mut [u8]) -> Written
+    ensures { λ r. ⌜ Came (write (requestDump address count) (now (out .entry))) r (now (out .exit)) ⌝ }
+{
+    writer::request_dump(address, count, out)
+}
+
+#[no_mangle]
+pub extern "C" fn mop_write_request_dump_service(
+    device: u8,
+    format: u8,
+    size: u32,
+    compatibility: u8,
+    info: &[u8],
+    out: &mut [u8],
+) -> Written
+    ensures { λ r. ⌜ Came (write (requestDumpService device format size compatibility (now (info .entry))) (now (out .entry))) r (now (out .exit)) ⌝ }
+{
+    writer::request_dump_service(device, format, size, compatibility, info, out)
+}
+
+#[no_mangle]
+pub extern "C" fn mop_write_dump_data(address: u32, bytes: &[u8], out: &mut [u8]) -> Written
+    ensures { λ r. ⌜ Came (write (dumpData address (now (bytes .entry))) (now (out .entry))) r (now (out .exit)) ⌝ }
+{
+    writer::dump_data(address, bytes, out)
+}
+
+#[no_mangle]
+pub extern "C" fn mop_write_dump_complete(out: &mut [u8]) -> Written
+    ensures { λ r. ⌜ Came (write dumpComplete (now (out .entry))) r (now (out .exit)) ⌝ }
+{
+    writer::dump_complete(out)
+}
+
+#[no_mangle]
+pub extern "C" fn mop_write_volunteer(out: &mut [u8]) -> Written
+    ensures { λ r. ⌜ Came (write volunteer (now (out .entry))) r (now (out .exit)) ⌝ }
+{
+    writer::volunteer(out)
+}
+
+#[no_mangle]
+pub extern "C" fn mop_write_parameters(
+    number: u8,
+    entries: &[u8],
+    transfer: u32,
+    out: &mut [u8],
+) -> Written
+    ensures { λ r. ⌜ Came (write (parameters number (now (entries .entry)) transfer) (now (out .entry))) r (now (out .exit)) ⌝ }
+{
+    writer_listed::parameters(number, entries, transfer, out)
+}
+
+#[no_mangle]
+pub extern "C" fn mop_write_loop(receipt: u16, bytes: &[u8], out: &mut [u8]) -> Written
+    ensures { λ r. ⌜ Came (write (loopData receipt (now (bytes .entry))) (now (out .entry))) r (now (out .exit)) ⌝ }
+{
+    writer::loop_data(receipt, bytes, out)
+}
+
+#[no_mangle]
+pub extern "C" fn mop_write_looped(receipt: u16, bytes: &[u8], out: &mut [u8]) -> Written
+    ensures { λ r. ⌜ Came (write (loopedData receipt (now (bytes .entry))) (now (out .entry))) r (now (out .exit)) ⌝ }
+{
+    writer::looped_data(receipt, bytes, out)
+}
+
+// Image files: mop_image and mop_segment of the header.
+
+#[no_mangle]
+pub extern "C" fn mop_image_check(file: &[u8], segment_size: u32) -> Image
+    ensures { λ r. ⌜ r ≡ checked (now (file .entry)) «segment_size» ⌝ }
+{
+    image::check(file, segment_size)
+}
+
+#[no_mangle]
+pub extern "C" fn mop_image_segment(file: &[u8], segment_size: u32, index: u64) -> Segment
+    ensures { λ r. ⌜ r ≡ found (now (file .entry)) «segment_size» index ⌝ }
+{
+    image::find(file, segment_size, index)
+}
