@@ -1,2 +1,7 @@
 pub mod Link
-pub mod Sent
+pub mod Call
+pub mod Flight
+pub mod Numbered
+pub mod Each
+pub mod Alone
+pub mod MachineEnd

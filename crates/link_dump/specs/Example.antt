@@ -6,35 +6,40 @@ use mathlib.Core.List.{List, [], _∷_}
 use lib.ListN.{replicate}
 use Rattle.octets.specs.Number.{number, low}
 use Rattle.message.specs.Message.{least, leastIn}
-use Rattle.message.specs.Read.{fields, read}
+use Rattle.message.specs.Read.{byCode, fields}
 use Rattle.message.specs.Write.{layout}
-use Rattle.machine.specs.declared.Settings.{Settings as MachineSettings}
-use Rattle.machine.specs.Machine as machine
-use Rattle.dump.specs.declared.Settings.{Settings as DumpSettings}
+use Rattle.memory.specs.Memory.{bytesFrom}
+use Rattle.step.specs.Step.{first}
+use Rattle.machine_next.specs.declared.Settings.{Settings as MachineSettings}
+use Rattle.machine_next.specs.Next as machine
+use Rattle.dump_next.specs.declared.Settings.{Settings as DumpSettings}
 use Rattle.dump.specs.Dump as dump
-use Rattle.link.specs.Link.{Event, handToMachine, handToHost, hostTimer, run}
+use Rattle.link.specs.Link.{Event, own, handToMachine, handToHost, hostTimer, run}
 use Rattle.link_dump.specs.Theorem.{after}
 
 -- 3 bytes from address 1, at most 2 at a time, one repeat; a memory of 3 bytes
 abbrev s : DumpSettings
-s = record { length = 3; address = 1; most = 2; repeats = 1 }
+s = record { length = 3; address = 1; «request_bytes» = 2; repeats = 1 }
 
 abbrev ms : MachineSettings
-ms = record { «dump_most» = 1495; device = 0; processor = 0 }
+ms = record { «reply_bytes» = 1495; device = 0; processor = 0 }
 
-accepted : (dump.settled s 3 ≡ true) × (machine.ready ms machine.offering 3 ≡ true)
+accepted : (dump.settled s 3 ≡ true) × (machine.refusal ms machine.offering 3 1500 ≡ 0)
+unfolding first
 accepted = (refl, refl)
 
 abbrev reply : List ℕ
 reply = replicate 1500 0
 
 -- the offer; a request for 2 bytes and the reply; a request for the last byte, which is beyond memory's end, again at a timer, and the reply
-abbrev events : List Event
-events = handToHost reply ∷ handToMachine reply ∷ handToHost reply ∷ hostTimer reply ∷ handToMachine reply ∷ handToHost reply ∷ []
+abbrev events : List (Event ⊥)
+events =
+    own (handToHost reply) ∷ own (handToMachine reply) ∷ own (handToHost reply) ∷ own (hostTimer reply) ∷ own (handToMachine reply) ∷
+    own (handToHost reply) ∷ []
 
 finishes : after s ms (7 ∷ 8 ∷ 9 ∷ []) (5 ∷ 5 ∷ 5 ∷ []) events .host ≡ record {
   session = record { filled = 3; replies = 2; sent = 4; repeats = 0; waiting = 0; verdict = 1 };
   buffer = 8 ∷ 9 ∷ 0 ∷ [];
 }
-unfolding run read fields least leastIn layout low number machine.window
+unfolding run byCode fields least leastIn layout low number first bytesFrom
 finishes = refl

@@ -1,5 +1,7 @@
 pub mod Model
-pub mod Window
+pub mod Filled
+pub mod Host
+pub mod Alone
 pub mod Invariant
 pub mod Theorem
 pub mod Example

@@ -2,63 +2,44 @@
 use Prim.Native.Nat.{ℕ, _+_, _*_, _≤_}
 use mathlib.Core.Path.{_≡_}
 use mathlib.Core.Bool.{true}
-use mathlib.Core.List.{List, [], _∷_, _++_}
+use mathlib.Core.List.{List, _++_}
 use lib.ListN.{length, drop}
-use Rattle.message.specs.Write.{layout}
-use Rattle.machine.specs.declared.Machine.{Machine}
-use Rattle.machine.specs.declared.Settings.{Settings as MachineSettings}
-use Rattle.machine.specs.Machine as machine
-use Rattle.dump.specs.declared.Session.{Session}
-use Rattle.dump.specs.declared.Settings.{Settings as DumpSettings}
+use Rattle.memory.specs.Memory.{bytesFrom}
+use Rattle.step.specs.Step.{Outcome}
+use Rattle.machine_next.specs.declared.Settings.{Settings as MachineSettings}
+use Rattle.machine_next.specs.Next.{offering}
+use Rattle.dump_next.specs.declared.Session.{Session}
+use Rattle.dump_next.specs.declared.Settings.{Settings as DumpSettings}
+use Rattle.dump_next.specs.Next.{fresh}
 use Rattle.dump.specs.Dump as dump
-use Rattle.link.specs.Link.{Frame, Turn, turn, Ends, World}
+use Rattle.link.specs.Link.{Turn, Ends, World}
+use Rattle.link.specs.Call.{turned}
+use Rattle.link.specs.MachineEnd.{End, endsWith, freshWith}
 
 -- The host end: its record and its dump buffer.
 pub record Host : Type 0 where
   pub session : Session
   pub buffer : List ℕ
 
--- The machine end: its state and its memory.
-pub record End : Type 0 where
-  pub machine : Machine
-  pub memory : List ℕ
+abbrev pub hostEnd : Session → List ℕ → Host
+hostEnd h buffer = record { session = h; buffer = buffer }
 
--- a call's answer, as the link sees it
-abbrev pub hostTurned : dump.Out → Turn Host
-hostTurned o = turn (record { session = o .session; buffer = o .buffer }) (o .answer) (o .reply)
+abbrev pub hostTurned : Outcome Session (List ℕ) → Turn Host
+hostTurned = turned hostEnd
 
-abbrev pub machineTurned : machine.Out → Turn End
-machineTurned o = turn (record { machine = o .machine; memory = o .memory }) (o .answer) (o .reply)
-
--- the calls of both ends, as the code promises them
-abbrev pub dumpEnds : DumpSettings → MachineSettings → Ends Host End
+-- the calls of both ends, as the code promises them; there are no further events
+abbrev pub dumpEnds : DumpSettings → MachineSettings → Ends Host End ⊥
 dumpEnds s ms =
-    record {
-      hostFrame = λ h f b. hostTurned (dump.dumpFrame s (h .session) f (h .buffer) b);
-      hostTimer = λ h b. hostTurned (dump.dumpTimer s (h .session) (h .buffer) b);
-      machineFrame = λ e f b. machineTurned (machine.machineFrame ms (e .machine) f (e .memory) b);
-      machineTimer = λ e b. machineTurned (machine.machineTimer ms (e .machine) (e .memory) b);
-    }
-
--- what is sent, as frames
-abbrev pub queued : machine.Reply → List Frame
-queued machine.silent = []
-queued (machine.sends m) = layout m ∷ []
+    endsWith ms (λ h f b. hostTurned (dump.dumpFrame s (h .session) f (h .buffer) b)) (λ h b. hostTurned (dump.dumpTimer s (h .session) (h .buffer) b))
+    (λ w x. absurd x)
 
 -- fresh ends: a waiting host, all numbers 0, and an Offering machine whose first frame, the one that a timer gives, is the only one queued
 abbrev pub freshWorld : MachineSettings → List ℕ → List ℕ → World Host End
-freshWorld ms memory buffer =
-    record {
-      host = record { session = dump.fresh; buffer = buffer };
-      machine = record { machine = machine.offering; memory = memory };
-      toMachine = [];
-      toHost = queued (machine.timed ms machine.offering memory);
-      taken = 0;
-    }
+freshWorld ms memory buffer = freshWith ms (hostEnd fresh buffer) offering memory
 
 -- a buffer whose first n bytes are memory from an address on, 0 beyond memory's end, and whose rest is as it was
 abbrev pub filledWith : List ℕ → ℕ → ℕ → List ℕ → List ℕ
-filledWith memory a n buffer = machine.window memory a n ++ drop n buffer
+filledWith memory a n buffer = bytesFrom memory a n ++ drop n buffer
 
 -- What is claimed of a world: `memory` and `buffer` are the old ones.
 pub record Dumped (s : DumpSettings) (memory buffer : List ℕ) (w : World Host End) : Type 0 where

@@ -5,38 +5,74 @@
 --     counted            frames sent is what the link took, within its bound
 --     never-bad          no reached record is a bad one
 --     never-refused      so no call of the host is refused for its record or its settings
--- `getD xs k 0` is byte k of xs, counted from 0, and 0 beyond the end of xs.
+-- `Event ⊥`: the link's own events and no others. `getD xs k 0` is byte k of xs, counted from 0, and 0 beyond the end of xs.
 use Prim.Native.Nat.{ℕ, _+_, _*_, _≤_, _<_}
-use mathlib.Core.Path.{_≡_, ap, _∙_}
+use mathlib.Core.Path.{_≡_, refl, ap, _∙_}
 use mathlib.Core.Bool.{true}
 use mathlib.Core.List.{List}
 use native.Mathlib.Omega.{arith}
-use lib.ListN.{length, getD}
-use borrow.Author.Tests.{le-ltb}
-use Rattle.machine.specs.declared.Settings.{Settings as MachineSettings}
-use Rattle.machine.specs.Machine as machine
-use Rattle.dump.specs.declared.Session.{Session}
-use Rattle.dump.specs.declared.Settings.{Settings as DumpSettings}
+use native.Mathlib.Decide.{ℕ-discrete}
+use lib.ListN.{length, getD, length-append, length-drop}
+use borrow.Author.Tests.{le-leb}
+use Rattle.memory.specs.Memory.{bytesFrom}
+use Rattle.memory.specs.Laws.{length-bytesFrom}
+use Rattle.step.specs.Step.{first}
+use Rattle.machine_next.specs.declared.Settings.{Settings as MachineSettings}
+use Rattle.machine_next.specs.Next as machine
+use Rattle.dump_next.specs.declared.Session.{Session}
+use Rattle.dump_next.specs.declared.Settings.{Settings as DumpSettings}
 use Rattle.dump.specs.Dump as dump
 use Rattle.link.specs.Link.{World, Event, run, always}
-use Rattle.link_dump.specs.Model.{Host, End, dumpEnds, freshWorld, filledWith, Dumped}
-use Rattle.link_dump.specs.Window.{in-filled, past-filled, filled-whole}
-use Rattle.link_dump.specs.Invariant.{given, Holds, closed, fresh-holds, claimed}
+use Rattle.link.specs.Alone.{Alone}
+use Rattle.link.specs.MachineEnd.{End}
+use Rattle.link_dump.specs.Model.{Host, dumpEnds, freshWorld, filledWith, Dumped}
+use Rattle.link_dump.specs.Filled.{in-filled, past-filled, filled-whole}
+use Rattle.link_dump.specs.Host.{heard, timed}
+use Rattle.link_dump.specs.Alone as alone
+use Rattle.link_dump.specs.Alone.{Good, alone-dump, fresh, bound}
+use Rattle.link_dump.specs.Invariant.{given, Inv, closed, fresh-holds}
 
 -- The world after a list of events, from fresh ends with this memory and this dump buffer.
-abbrev pub after : DumpSettings → MachineSettings → List ℕ → List ℕ → List Event → World Host End
+abbrev pub after : DumpSettings → MachineSettings → List ℕ → List ℕ → List (Event ⊥) → World Host End
 after s ms memory buffer es = run (dumpEnds s ms) (freshWorld ms memory buffer) es
 
 -- Accepted settings, any memory and dump buffer of accepted lengths, any list of events: the parameters of all that follows.
 module _
     (s : DumpSettings) (ms : MachineSettings) (memory buffer : List ℕ) (settled : dump.settled s (length buffer) ≡ true)
-    (ready : machine.ready ms machine.offering (length memory) ≡ true) (es : List Event) where
+    (ready : machine.refusal ms machine.offering (length memory) 1500 ≡ 0) (es : List (Event ⊥)) where
+  reached : Inv s ms memory buffer (given s ms memory buffer settled ready) (after s ms memory buffer es)
+  reached =
+      let g = given s ms memory buffer settled ready in
+      always (dumpEnds s ms) (Inv s ms memory buffer g) (closed s ms memory buffer g) (λ w x. absurd x) (freshWorld ms memory buffer) es (fresh-holds s ms memory buffer g)
+
+  counts : Alone (Good s) (λ h. h .session .sent) (dumpEnds s ms) (after s ms memory buffer es)
+  counts =
+      let g = given s ms memory buffer settled ready in
+      always (dumpEnds s ms) (Alone (Good s) (λ h. h .session .sent) (dumpEnds s ms))
+      (alone-dump s (g .some) (dumpEnds s ms) (heard s) (timed s)) (λ w x. absurd x) (freshWorld ms memory buffer) es (fresh s (g .some) buffer, refl)
+
   -- The theorem.
   pub dumped : Dumped s memory buffer (after s ms memory buffer es)
   dumped =
       let g = given s ms memory buffer settled ready in
-      claimed s ms memory buffer g (after s ms memory buffer es)
-      (always (dumpEnds s ms) (Holds s ms memory buffer g) (closed s ms memory buffer g) (freshWorld ms memory buffer) es (fresh-holds s ms memory buffer g))
+      let w = after s ms memory buffer es in
+      let n = counts .0 in
+      let whole = g .whole in
+      let few = n .filled in
+      record {
+        memory-is = reached .end .held;
+        buffer-is = reached .host .held;
+        size = rw (reached .host .held) (simp (length-append, length-drop, length-bytesFrom) (omega arith));
+        filled = n .filled;
+        finished = λ v. n .finished v .0;
+        full = λ e. full (w .host .session .verdict) (w .host .session .filled) (n .unfinished) e;
+        counted = counts .1;
+        bounded = bound s (g .some) (w .host) n;
+        sound = alone.never-bad s (g .some) (w .host) n;
+      }
+    where
+      full : (v f : ℕ) → ((v ≡ 1 → ⊥) → f < s .length) → f ≡ s .length → v ≡ 1
+      full v f u e = elim (ℕ-discrete v 1) [ yes p ↦ p | no p ↦ absurd (omega (arith, u p)) ]
 
   -- the host's record, its dump buffer and the machine's memory, then
   abbrev session : Session
@@ -50,13 +86,13 @@ module _
 
   -- A finished dump: the dump buffer holds L bytes, the machine's memory from address A on; a byte beyond memory's end is 0. Memory is as it was.
   pub filed-dump : session .verdict ≡ 1
-      → (filed ≡ machine.window memory (s .address) (s .length)) × (length filed ≡ s .length)
+      → (filed ≡ bytesFrom memory (s .address) (s .length)) × (length filed ≡ s .length)
       × ((k : ℕ) → k < s .length → getD filed k 0 ≡ getD memory (s .address + k) 0) × (memory-then ≡ memory)
   filed-dump v =
       let d = dumped in
       let g = given s ms memory buffer settled ready in
       let all : session .filled ≡ s .length = d .finished v in
-      let whole : filledWith memory (s .address) (session .filled) buffer ≡ machine.window memory (s .address) (s .length) =
+      let whole : filledWith memory (s .address) (session .filled) buffer ≡ bytesFrom memory (s .address) (s .length) =
       ap (λ (n : ℕ). filledWith memory (s .address) n buffer) all ∙ filled-whole memory (s .address) (s .length) buffer (omega arith) in (
         d .buffer-is ∙ whole,
         d .size ∙ g .whole,
@@ -90,7 +126,7 @@ module _
   pub never-bad : dump.sound s session ≡ true
   never-bad = dumped .sound
 
-  -- So a call of the host with a reply buffer of at least 1,500 bytes is refused neither for its record or settings (10) nor for its buffer (9):
-  -- what it gives is what `called` was to give, whatever that is.
-  pub never-refused : (reply : List ℕ) (out : dump.Out) → 1500 ≤ length reply → dump.called s session filed reply out ≡ out
-  never-refused reply out h = rw (dumped .size, settled, dumped .sound, le-ltb (length reply) 1500 h)
+  -- So a call of the host with a reply buffer of at least 1,500 bytes is refused neither for its record or settings (10) nor for its buffer (9).
+  pub never-refused : (reply : List ℕ) → 1500 ≤ length reply → dump.refusal s session (length filed) (length reply) ≡ 0
+  unfolding first
+  never-refused reply h = rw (dumped .size, settled, dumped .sound, le-leb 1500 (length reply) h)

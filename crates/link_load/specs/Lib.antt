@@ -1,7 +1,10 @@
 pub mod Model
-pub mod Parts
-pub mod Flight
-pub mod Invariant
+pub mod Host
+pub mod Alone
+pub mod Frames
+pub mod Sender
+pub mod Image
+pub mod Meaning
 pub mod Theorem
 pub mod Regions
 pub mod Audit

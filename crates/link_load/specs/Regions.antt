@@ -1,84 +1,44 @@
 -- The segments laid over a memory are the regions laid over it, and what each byte of memory is then.
-use Prim.Native.Nat.{ℕ, zero, suc, _+_, _-_, _*_, _≤_, _<_}
-use mathlib.Core.Path.{_≡_, refl, ap, sym, subst, _∙_}
-use mathlib.Core.Bool.{Bool, true, false}
-use mathlib.Core.List.{List, [], _∷_, _++_, append-assoc}
-use mathlib.Core.Logic.{_⊎_, inl, inr, ⊎-elim}
+use Prim.Native.Nat.{ℕ, zero, suc, _+_, _≤_, _<_}
+use mathlib.Core.Path.{_≡_, refl, ap, sym, _∙_}
+use mathlib.Core.List.{List, [], _∷_}
+use mathlib.Core.Logic.{_⊎_, ⊎-elim}
 use native.Mathlib.Omega.{arith}
-use native.Mathlib.Numerals.{add-one}
 use native.Mathlib.Nat.{add-zero, add-suc}
-use lib.ListN.{length, take, drop, getD, take-append-drop, length-append, length-take, length-drop, List·getD-append}
-use lib.Seq.{take-at, drop-at, take-append-le, drop-drop, length-take-le, getD-append-add, getD-take, getD-drop}
-use lib.Dec.{eqb, leb, ltb}
-use borrow.Author.Tests.{leb-true, le-leb}
-use Rattle.octets.specs.Lay.{over}
-use Rattle.link_load.specs.Parts.{length-over}
+use lib.ListN.{length, drop, getD, take-append-drop, length-append}
+use lib.Seq.{getD-take, getD-drop}
+use Rattle.memory.specs.Memory.{laid}
+use Rattle.memory.specs.Laws.{length-laid, laid-joined, laid-within, laid-before, laid-behind}
 use Rattle.image.specs.declared.Region.{Region}
-use Rattle.image.specs.Image.{regions, many, segment, parts, cut, bytes, ending, nowhere, entriesRefusal}
+use Rattle.image.specs.Image.{many, segment, parts, cut, bytes, ending, nowhere, entriesRefusal}
 use Rattle.image.specs.Parts.{joined, joined-whole, cut-address, length-bytes, parts-some}
 use Rattle.image.specs.Laws.{Fit, accepted-cons, segment-here, segment-later}
-
--- two strings laid one behind the other are their joining laid over
-over-behind : (a b : List ℕ) (at : ℕ) (m : List ℕ) → at + length a + length b ≤ length m → over b (at + length a) (over a at m) ≡ over (a ++ b) at m
-over-behind a b at m h =
-    let front : length (take at m) ≡ at = length-take-le at m (omega arith) in
-    let whole : length (take at m ++ a) ≡ at + length a = rw (length-append, front) in
-    let before : take (at + length a) (over a at m) ≡ take at m ++ a =
-    (rw (← append-assoc (take at m) a (drop (at + length a) m)) (take-at (take at m ++ a) (drop (at + length a) m) (at + length a) whole)) in
-    let past : drop (at + length a) (over a at m) ≡ drop (at + length a) m =
-    (rw (← append-assoc (take at m) a (drop (at + length a) m)) (drop-at (take at m ++ a) (drop (at + length a) m) (at + length a) whole)) in
-    let behind : drop (at + length a + length b) (over a at m) ≡ drop (at + length a + length b) m =
-    sym (drop-drop (length b) (at + length a) (over a at m)) ∙ (rw past (drop-drop (length b) (at + length a) m)) in
-    let size : at + length (a ++ b) ≡ at + length a + length b = simp length-append (omega arith) in
-    rw (before, behind, size, append-assoc (take at m) a (b ++ drop (at + length a + length b) m), append-assoc a b (drop (at + length a + length b) m))
-
--- a byte of a memory that something was laid over: within it, and elsewhere
-over-within : (b : List ℕ) (at : ℕ) (m : List ℕ) (x : ℕ) → at + length b ≤ length m → x < length b → getD (over b at m) (at + x) 0 ≡ getD b x 0
-over-within b at m x h l =
-    let front : length (take at m) ≡ at = length-take-le at m (omega arith) in
-    subst (λ (k : ℕ). getD (over b at m) (k + x) 0 ≡ getD b x 0) front
-    (getD-append-add (take at m) (b ++ drop (at + length b) m) x 0 ∙ List·getD-append b (drop (at + length b) m) 0 x l)
-
-over-before : (b : List ℕ) (at : ℕ) (m : List ℕ) (a : ℕ) → at + length b ≤ length m → a < at → getD (over b at m) a 0 ≡ getD m a 0
-over-before b at m a h l =
-    let front : length (take at m) ≡ at = length-take-le at m (omega arith) in
-    List·getD-append (take at m) (b ++ drop (at + length b) m) 0 a (omega arith) ∙ getD-take at m a 0 l
-
-over-behind-it : (b : List ℕ) (at : ℕ) (m : List ℕ) (a : ℕ) → at + length b ≤ length m → at + length b ≤ a → getD (over b at m) a 0 ≡ getD m a 0
-over-behind-it b at m a h l =
-    let whole : length (take at m ++ b) ≡ at + length b = simp (length-append, length-take) (omega arith) in
-    let k = a - (at + length b) in
-    let g : length (take at m ++ b) + k ≡ a = omega arith in
-    let p : getD (over b at m) (length (take at m ++ b) + k) 0 ≡ getD (drop (at + length b) m) k 0 =
-    (rw (← append-assoc (take at m) b (drop (at + length b) m)) (getD-append-add (take at m ++ b) (drop (at + length b) m) k 0)) in
-    let q : getD (drop (at + length b) m) k 0 ≡ getD m (length (take at m ++ b) + k) 0 = rw (whole, getD-drop) in
-    subst (λ (x : ℕ). getD (over b at m) x 0 ≡ getD m x 0) g (p ∙ q)
 
 module _ (file : List ℕ) (S : ℕ) where
   -- the first j parts of a region laid over a memory; the first k segments of regions; whole regions
   unfoldable pub partsOver : Region → ℕ → List ℕ → List ℕ
   partsOver r zero m = m
-  partsOver r (suc j) m = over (bytes file (cut S r j)) (cut S r j .address) (partsOver r j m)
+  partsOver r (suc j) m = laid (bytes file (cut S r j)) (cut S r j .address) (partsOver r j m)
 
   unfoldable pub segmentsOver : List Region → ℕ → List ℕ → List ℕ
   segmentsOver rs zero m = m
-  segmentsOver rs (suc k) m = over (bytes file (segment S rs k)) (segment S rs k .address) (segmentsOver rs k m)
+  segmentsOver rs (suc k) m = laid (bytes file (segment S rs k)) (segment S rs k .address) (segmentsOver rs k m)
 
   unfoldable pub regionsOver : List Region → List ℕ → List ℕ
   regionsOver [] m = m
-  regionsOver (r ∷ rs) m = regionsOver rs (over (bytes file r) (r .address) m)
+  regionsOver (r ∷ rs) m = regionsOver rs (laid (bytes file r) (r .address) m)
 
   -- the parts of a region, laid over one after the other, are the region
   parts-joined : (r : Region) (j : ℕ) (m : List ℕ) → 1 ≤ S → r .place + r .length ≤ length file → j ≤ parts S r → r .address ≤ length m
       → ((i : ℕ) → i < j → cut S r i .address + length (bytes file (cut S r i)) ≤ length m)
-      → partsOver r j m ≡ over (joined file S r j) (r .address) m
+      → partsOver r j m ≡ laid (joined file S r j) (r .address) m
   unfolding partsOver joined
   parts-joined r zero m s h l a f = rw (add-zero (r .address)) (sym (take-append-drop (r .address) m))
   parts-joined r (suc j) m s h l a f =
       let at = cut-address file S r j s h (omega arith) in
       let room : r .address + length (joined file S r j) + length (bytes file (cut S r j)) ≤ length m = omega (arith, f j (omega arith), at) in
       rw (parts-joined r j m s h (omega arith) a (λ i k. f i (omega arith)), at)
-      (over-behind (joined file S r j) (bytes file (cut S r j)) (r .address) m room)
+      (laid-joined (joined file S r j) (bytes file (cut S r j)) (r .address) m room)
 
   -- the first parts of the first region, and the segments behind it
   first-parts : (r : Region) (rs : List Region) (j : ℕ) (m : List ℕ) → j ≤ parts S r → segmentsOver (r ∷ rs) j m ≡ partsOver r j m
@@ -142,18 +102,18 @@ module _ (file : List ℕ) (S : ℕ) where
         let c = accepted-cons directory end r rs e in
         let inside : r .place + r .length ≤ length file = omega (arith, c .0 .within) in
         let fits = region-fits end r (length m) (c .0) (here r rs (length m) f) in
-        let whole : partsOver r (parts S r) m ≡ over (bytes file r) (r .address) m =
-        parts-joined r (parts S r) m s inside (omega arith) (omega arith) (here r rs (length m) f) ∙ ap (λ (l : List ℕ). over l (r .address) m) (joined-whole file S r s) in
-        let size : length (over (bytes file r) (r .address) m) ≡ length m =
-        length-over (bytes file r) (r .address) m (le-leb (r .address + length (bytes file r)) (length m) (omega (arith, length-bytes file r inside))) in
+        let whole : partsOver r (parts S r) m ≡ laid (bytes file r) (r .address) m =
+        parts-joined r (parts S r) m s inside (omega arith) (omega arith) (here r rs (length m) f) ∙ ap (λ (l : List ℕ). laid l (r .address) m) (joined-whole file S r s) in
+        let size : length (laid (bytes file r) (r .address) m) ≡ length m =
+        length-laid (bytes file r) (r .address) m (omega (arith, length-bytes file r inside)) in
         rw (later-parts r rs (many S rs) m, whole)
-        (segments-regions (ending r) rs (over (bytes file r) (r .address) m) (c .1) (rw size (later r rs (length m) f)))
+        (segments-regions (ending r) rs (laid (bytes file r) (r .address) m) (c .1) (rw size (later r rs (length m) f)))
 
     -- ---- each byte of memory then
-    laid-size : (end : ℕ) (r : Region) (m : List ℕ) → Fit directory end r → ending r ≤ length m → length (over (bytes file r) (r .address) m) ≡ length m
+    laid-size : (end : ℕ) (r : Region) (m : List ℕ) → Fit directory end r → ending r ≤ length m → length (laid (bytes file r) (r .address) m) ≡ length m
     laid-size end r m g f =
-        length-over (bytes file r) (r .address) m
-        (le-leb (r .address + length (bytes file r)) (length m) (omega (arith, length-bytes file r (omega (arith, g .within)))))
+        length-laid (bytes file r) (r .address) m
+        (omega (arith, length-bytes file r (omega (arith, g .within))))
 
     pub regions-size : (end : ℕ) (rs : List Region) (m : List ℕ) → entriesRefusal directory end rs ≡ 0 → AllFit rs (length m) → length (regionsOver rs m) ≡ length m
     unfolding regionsOver AllFit
@@ -161,7 +121,7 @@ module _ (file : List ℕ) (S : ℕ) where
     regions-size end (r ∷ rs) m e f =
         let c = accepted-cons directory end r rs e in
         let z = laid-size end r m (c .0) (f .0) in
-        regions-size (ending r) rs (over (bytes file r) (r .address) m) (c .1) (rw z (f .1)) ∙ z
+        regions-size (ending r) rs (laid (bytes file r) (r .address) m) (c .1) (rw z (f .1)) ∙ z
 
     -- a byte before the first region stays
     before-all : (end : ℕ) (rs : List Region) (m : List ℕ) (a : ℕ) → entriesRefusal directory end rs ≡ 0 → AllFit rs (length m) → a < end
@@ -171,8 +131,8 @@ module _ (file : List ℕ) (S : ℕ) where
     before-all end (r ∷ rs) m a e f l =
         let c = accepted-cons directory end r rs e in
         let n = length-bytes file r (omega (arith, c .0 .within)) in
-        before-all (ending r) rs (over (bytes file r) (r .address) m) a (c .1) (rw (laid-size end r m (c .0) (f .0)) (f .1)) (omega (arith, c .0 .after))
-        ∙ over-before (bytes file r) (r .address) m a (omega (arith, n, f .0)) (omega (arith, c .0 .after))
+        before-all (ending r) rs (laid (bytes file r) (r .address) m) a (c .1) (rw (laid-size end r m (c .0) (f .0)) (f .1)) (omega (arith, c .0 .after))
+        ∙ laid-before (bytes file r) (r .address) m (omega (arith, n, f .0)) a (omega (arith, c .0 .after))
 
     -- a byte of a region is the file's
     pub inside-region : (end : ℕ) (rs : List Region) (m : List ℕ) (k x : ℕ) → entriesRefusal directory end rs ≡ 0 → AllFit rs (length m)
@@ -183,12 +143,12 @@ module _ (file : List ℕ) (S : ℕ) where
     inside-region end (r ∷ rs) m zero x e f l b =
         let c = accepted-cons directory end r rs e in
         let n = length-bytes file r (omega (arith, c .0 .within)) in
-        before-all (ending r) rs (over (bytes file r) (r .address) m) (r .address + x) (c .1) (rw (laid-size end r m (c .0) (f .0)) (f .1)) (omega arith)
-        ∙ over-within (bytes file r) (r .address) m x (omega (arith, n, f .0)) (omega (arith, n))
+        before-all (ending r) rs (laid (bytes file r) (r .address) m) (r .address + x) (c .1) (rw (laid-size end r m (c .0) (f .0)) (f .1)) (omega arith)
+        ∙ laid-within (bytes file r) (r .address) m (omega (arith, n, f .0)) x (omega (arith, n))
         ∙ getD-take (r .length) (drop (r .place) file) x 0 b ∙ getD-drop (r .place) file x 0
     inside-region end (r ∷ rs) m (suc k) x e f l b =
         let c = accepted-cons directory end r rs e in
-        inside-region (ending r) rs (over (bytes file r) (r .address) m) k x (c .1) (rw (laid-size end r m (c .0) (f .0)) (f .1)) (omega (arith, l)) b
+        inside-region (ending r) rs (laid (bytes file r) (r .address) m) k x (c .1) (rw (laid-size end r m (c .0) (f .0)) (f .1)) (omega (arith, l)) b
 
     -- a byte of no region stays
     pub outside-regions : (end : ℕ) (rs : List Region) (m : List ℕ) (a : ℕ) → entriesRefusal directory end rs ≡ 0 → AllFit rs (length m)
@@ -199,6 +159,6 @@ module _ (file : List ℕ) (S : ℕ) where
     outside-regions end (r ∷ rs) m a e f g =
         let c = accepted-cons directory end r rs e in
         let n = length-bytes file r (omega (arith, c .0 .within)) in
-        outside-regions (ending r) rs (over (bytes file r) (r .address) m) a (c .1) (rw (laid-size end r m (c .0) (f .0)) (f .1)) (λ k l. g (suc k) (omega arith))
-        ∙ ⊎-elim (λ l. over-before (bytes file r) (r .address) m a (omega (arith, n, f .0)) l)
-        (λ l. over-behind-it (bytes file r) (r .address) m a (omega (arith, n, f .0)) (omega (arith, n, l))) (g 0 (omega arith))
+        outside-regions (ending r) rs (laid (bytes file r) (r .address) m) a (c .1) (rw (laid-size end r m (c .0) (f .0)) (f .1)) (λ k l. g (suc k) (omega arith))
+        ∙ ⊎-elim (λ l. laid-before (bytes file r) (r .address) m (omega (arith, n, f .0)) a l)
+        (λ l. laid-behind (bytes file r) (r .address) m (omega (arith, n, f .0)) a (omega (arith, n, l))) (g 0 (omega arith))

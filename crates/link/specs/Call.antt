@@ -1,0 +1,65 @@
+-- What a call comes to on the link: it is refused, or the end acts, and the frame that it sends joins its queue.
+use Prim.Native.Nat.{ℕ, _<_}
+use mathlib.Core.Path.{_≡_, refl}
+use mathlib.Core.List.{List, [], _∷_}
+use mathlib.Core.Logic.{_⊎_, inl, inr}
+use lib.ListN.{length, drop}
+use lib.Seq.{take-at}
+use lib.Dec.{eqb}
+use native.Mathlib.Omega.{arith}
+use borrow.Author.Tests.{ne-eqb}
+use Rattle.octets.specs.Cases.{by-cases}
+use Rattle.message.specs.Message.{Message, memoryLoadTransfer, memoryLoad, requestProgram, requestLoad, requestDump, requestDumpService, dumpData, dumpComplete, volunteer, parameters, loopData, loopedData}
+use Rattle.message.specs.Write.{layout, sent}
+use Rattle.step.specs.Step.{Sending, nothing, sends, Act, Outcome, call, told}
+use Rattle.link.specs.Link.{Frame, Turn, refuses, acts, turn}
+
+-- what is sent, as frames
+abbrev pub queued : Sending → List Frame
+queued nothing = []
+queued (sends m) = layout m ∷ []
+
+-- a call that is refused, or comes to this end and these frames
+abbrev pub Comes : {E : Type 0} → Turn E → E → List Frame → Type 0
+Comes t e out = (t ≡ refuses) ⊎ (t ≡ acts e out)
+
+-- what is so of both is so of the call
+pub came : {E : Type 0} (P : Turn E → Type 0) (t : Turn E) (e : E) (out : List Frame) → Comes t e out → P refuses → P (acts e out) → P t
+came P t e out (inl q) r a = rw q r
+came P t e out (inr q) r a = rw q a
+
+-- no frame is empty: it begins with its code
+begins : (m : Message) → 0 < length (layout m)
+unfolding layout
+begins (memoryLoadTransfer number address bytes transfer) = omega arith
+begins (memoryLoad number address bytes) = omega arith
+begins (requestProgram device format program form id processor info) = omega arith
+begins (requestLoad number error) = omega arith
+begins (requestDump address count) = omega arith
+begins (requestDumpService device format size compatibility info) = omega arith
+begins (dumpData address bytes) = omega arith
+begins dumpComplete = omega arith
+begins volunteer = omega arith
+begins (parameters number entries transfer) = omega arith
+begins (loopData receipt bytes) = omega arith
+begins (loopedData receipt bytes) = omega arith
+
+turn-sent : {E : Type 0} (end : E) (m : Message) (reply : List ℕ) → turn end (sent m reply .answer) (sent m reply .buffer) ≡ acts end (layout m ∷ [])
+turn-sent end m reply = rw (ne-eqb (length (layout m)) 0 (omega (arith, begins m)), take-at (layout m) (drop (length (layout m)) reply) (length (layout m)) refl)
+
+-- an end of the link, made of an end's record and what it is lent to change
+module _ {H B E : Type 0} (end : H → B → E) where
+  -- what a call leaves, as the link sees it
+  abbrev pub turned : Outcome H B → Turn E
+  turned o = turn (end (o .end) (o .lent)) (o .answer) (o .reply)
+
+  abbrev pub Becomes : Turn E → Act H B → Type 0
+  Becomes t a = Comes t (end (a .end) (a .lent)) (queued (a .sending))
+
+  tells : (h : H) (b : B) (reply : List ℕ) (out : Sending) → turned (told h b reply out) ≡ acts (end h b) (queued out)
+  tells h b reply nothing = refl
+  tells h b reply (sends m) = turn-sent (end h b) m reply
+
+  pub called : (n : ℕ) (h : H) (b : B) (reply : List ℕ) (a : Act H B) → Becomes (turned (call n h b reply a)) a
+  called n h b reply a =
+      by-cases (λ (o : Outcome H B). Becomes (turned o) a) (eqb n 0) (λ _. inr (tells (a .end) (a .lent) reply (a .sending))) (λ e. inl (rw e))
