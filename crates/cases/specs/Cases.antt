@@ -2,13 +2,18 @@
 use Prim.Native.Nat.{ℕ}
 use mathlib.Core.Path.{_≡_, refl}
 use mathlib.Core.List.{List, [], _∷_, _++_}
+use lib.ListN.{take, replicate}
 use Rattle.octets.specs.Number.{number, low}
 use Rattle.entries.specs.Entries.{next, walk, field}
-use Rattle.message.specs.Message.{least, leastIn, memoryLoadTransfer, memoryLoad, requestLoad, requestDump, dumpData, parameters}
-use Rattle.message.specs.Read.{refused, message, fields, read}
+use Rattle.message.specs.Message.{least, leastIn, memoryLoadTransfer, requestLoad, parameters}
+use Rattle.message.specs.Read.{refused, message, byCode, fields, read}
+use Rattle.message.specs.Write.{layout}
+use Rattle.memory.specs.Memory.{fits, bytesFrom}
+use Rattle.step.specs.Step.{Outcome, first}
 use Rattle.image.specs.Image.{trailerOf, entryOf, entries, demand, entriesRefusal, refusal, many, regions}
-use Rattle.machine.specs.declared.Settings.{Settings}
-use Rattle.machine.specs.Machine.{idle, loading, acts, sends, takes, onLoad, window, react}
+use Rattle.machine_next.specs.declared.Machine.{Machine}
+use Rattle.machine_next.specs.Next.{idle, loading, byNumber, onLoad}
+use Rattle.machine.specs.Machine.{machineFrame}
 
 -- an image file with one region of these bytes at an address, started at 0
 unfoldable pub image : ℕ → ℕ → List ℕ → ℕ → List ℕ
@@ -19,12 +24,24 @@ image address size bytes total =
 unfoldable pub hostTime : ℕ → ℕ → List ℕ
 hostTime hours minutes = 20 ∷ 0 ∷ 5 ∷ 10 ∷ 19 ∷ 83 ∷ 1 ∷ 1 ∷ 0 ∷ 0 ∷ 0 ∷ 0 ∷ hours ∷ minutes ∷ 0 ∷ 0 ∷ 0 ∷ 0 ∷ 0 ∷ []
 
--- a machine with D 4, and a memory of 8 bytes
-abbrev pub settings : Settings
-settings = record { «dump_most» = 4; device = 0; processor = 0 }
-
+-- a memory of 8 bytes
 abbrev pub memory : List ℕ
 memory = 1 ∷ 2 ∷ 3 ∷ 4 ∷ 5 ∷ 6 ∷ 7 ∷ 8 ∷ []
+
+-- What can be seen of a machine's step: its next state, memory, and the frame that is sent.
+pub record Seen : Type 0 where
+  pub machine : Machine
+  pub memory : List ℕ
+  pub frame : List ℕ
+
+abbrev pub seen : Machine → List ℕ → List ℕ → Seen
+seen m memory frame = record { machine = m; memory = memory; frame = frame }
+
+-- a step on a frame, with D 4 and a reply buffer of 1,500 bytes
+unfoldable pub step : Machine → List ℕ → Seen
+step m frame =
+    let out : Outcome Machine (List ℕ) = machineFrame (record { «reply_bytes» = 4; device = 0; processor = 0 }) m frame memory (replicate 1500 0) in
+    seen (out .end) (out .lent) (take (out .answer .length) (out .reply))
 
 pub record Cases : Type 0 where
   pub K1 : read [] ≡ refused 1
@@ -38,17 +55,25 @@ pub record Cases : Type 0 where
   pub K5-short : (n a b c d e f g : ℕ) → read (0 ∷ n ∷ a ∷ b ∷ c ∷ d ∷ e ∷ f ∷ g ∷ []) ≡ refused 1
   pub K6 : refusal (image 0xFFFFFFFF 1 (7 ∷ []) 29) ≡ 0
   pub K6-beyond : refusal (image 0xFFFFFFFF 2 (7 ∷ 7 ∷ []) 30) ≡ 7
-  pub K7 : react settings idle (memoryLoad 0 6 (9 ∷ 9 ∷ [])) memory ≡ acts (loading 1 0) (1 ∷ 2 ∷ 3 ∷ 4 ∷ 5 ∷ 6 ∷ 9 ∷ 9 ∷ []) (sends (requestLoad 1 0))
-  pub K7-beyond : react settings idle (memoryLoad 0 7 (9 ∷ 9 ∷ [])) memory ≡ acts (loading 1 1) memory (sends (requestLoad 1 1))
-  pub K8 : react settings (loading 1 0) (memoryLoad 0 0 (9 ∷ [])) memory ≡ acts (loading 1 0) (9 ∷ 2 ∷ 3 ∷ 4 ∷ 5 ∷ 6 ∷ 7 ∷ 8 ∷ []) (sends (requestLoad 1 0))
-  pub K9 : react settings (loading 255 0) (memoryLoad 255 0 (9 ∷ [])) memory ≡ acts (loading 0 0) (9 ∷ 2 ∷ 3 ∷ 4 ∷ 5 ∷ 6 ∷ 7 ∷ 8 ∷ []) (sends (requestLoad 0 0))
+  -- two bytes at 6 fit; at 7 nothing is written, error 1
+  pub K7 : step idle (0x02 ∷ 0x00 ∷ 0x06 ∷ 0x00 ∷ 0x00 ∷ 0x00 ∷ 0xAA ∷ 0xBB ∷ [])
+      ≡ seen (loading 1 0) (1 ∷ 2 ∷ 3 ∷ 4 ∷ 5 ∷ 6 ∷ 0xAA ∷ 0xBB ∷ []) (0x0A ∷ 0x01 ∷ 0x00 ∷ [])
+  pub K7-beyond : step idle (0x02 ∷ 0x00 ∷ 0x07 ∷ 0x00 ∷ 0x00 ∷ 0x00 ∷ 0xAA ∷ 0xBB ∷ []) ≡ seen (loading 1 1) memory (0x0A ∷ 0x01 ∷ 0x01 ∷ [])
+  -- number 0 is taken where 1 is expected
+  pub K8 : step (loading 1 0) (0x02 ∷ 0x00 ∷ 0x02 ∷ 0x00 ∷ 0x00 ∷ 0x00 ∷ 0xAA ∷ [])
+      ≡ seen (loading 1 0) (1 ∷ 2 ∷ 0xAA ∷ 4 ∷ 5 ∷ 6 ∷ 7 ∷ 8 ∷ []) (0x0A ∷ 0x01 ∷ 0x00 ∷ [])
+  -- after 255 comes 0
+  pub K9 : step (loading 255 0) (0x02 ∷ 0xFF ∷ 0x02 ∷ 0x00 ∷ 0x00 ∷ 0x00 ∷ 0xAA ∷ [])
+      ≡ seen (loading 0 0) (1 ∷ 2 ∷ 0xAA ∷ 4 ∷ 5 ∷ 6 ∷ 7 ∷ 8 ∷ []) (0x0A ∷ 0x00 ∷ 0x00 ∷ [])
   pub K10 : many 2 (regions (image 0 3 (7 ∷ 7 ∷ 7 ∷ []) 31)) ≡ 2
   pub K11 : read (hostTime 0 226) ≡ message (parameters 0 (5 ∷ 10 ∷ 19 ∷ 83 ∷ 1 ∷ 1 ∷ 0 ∷ 0 ∷ 0 ∷ 0 ∷ 0 ∷ 226 ∷ []) 0)
   pub K11-opposite : read (hostTime 1 226) ≡ refused 4
-  pub K12 : react settings idle (requestDump 6 4) memory ≡ acts idle memory (sends (dumpData 6 (7 ∷ 8 ∷ 0 ∷ 0 ∷ [])))
+  -- two memory bytes, two zeros
+  pub K12 : step idle (0x04 ∷ 0x06 ∷ 0x00 ∷ 0x00 ∷ 0x00 ∷ 0x04 ∷ 0x00 ∷ [])
+      ≡ seen idle memory (0x0E ∷ 0x06 ∷ 0x00 ∷ 0x00 ∷ 0x00 ∷ 7 ∷ 8 ∷ 0 ∷ 0 ∷ [])
 
 pub cases : Cases
-unfolding number low least leastIn fields read next walk field trailerOf entryOf entries demand entriesRefusal many image hostTime takes onLoad window
+unfolding number low least leastIn byCode fields read layout first fits bytesFrom byNumber onLoad next walk field trailerOf entryOf entries demand entriesRefusal many image hostTime step
 cases =
     record {
       K1 = refl;
