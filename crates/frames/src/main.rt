@@ -1,7 +1,7 @@
 // Captured frames on standard input, a line of capital hexadecimal each; the fields of each by name on standard output.
+use hexadecimal::Line;
 use libc::STDIN_FILENO;
 use libc::STDOUT_FILENO;
-use listing::Line;
 
 // The first n bytes of a buffer.
 fn print(out: &[u8], n: usize) {
@@ -25,7 +25,7 @@ fn feed(line: Line, input: &[u8], frame: &mut [u8], out: &mut [u8]) -> Line {
 
 // Reads the input to its end. A proved loop ends by a count, here from a number that no run uses up.
 fn read_all(input: &mut [u8], frame: &mut [u8], out: &mut [u8]) -> Line {
-    let mut line = listing::start();
+    let mut line = hexadecimal::start();
     let mut turns = u64::MAX;
     while 0 < turns {
         let got = libc::read(STDIN_FILENO, input);

@@ -1,9 +1,3 @@
-pub mod Cases
-pub mod Text
-pub mod Hexadecimal
-pub mod Line
-pub mod Run
-pub mod Over
-pub mod Pattern
-pub mod Answer
+pub mod Frame
 pub mod Listing
+pub mod Laws

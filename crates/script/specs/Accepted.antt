@@ -1,16 +1,15 @@
--- What a caller may take for granted of an input that is not refused, and of a decoded image.
-use Prim.Native.Nat.{ℕ, _+_, _/_, _<_, _≤_}
+-- What a caller may take for granted of an input that is not refused.
+use Prim.Native.Nat.{ℕ, _+_, _<_, _≤_}
 use mathlib.Core.Bool.{Bool, true, false, _&&_, cond as pick}
 use mathlib.Core.Path.{_≡_, refl, ap, sym, subst, _∙_}
-use mathlib.Core.List.{List, _++_}
+use mathlib.Core.List.{List}
 use native.Mathlib.Omega.{arith}
-use lib.ListN.{length, take, drop, length-append, length-drop}
-use lib.Dec.{eqb, leb, ltb}
-use borrow.Author.Tests.{leb-true, eqb-true, ltb-false, le-ltb}
-use Rattle.octets.specs.Lay.{Output, written}
-use Rattle.octets.specs.Cases.{by-cases}
-use Rattle.script.specs.Script.{isNumber, value, ranges, thirdAt, memory, size, repeats, isSettings, isImage, bytes, only, events, end, settingsLine, imageLine, eventsLine, wellFormed, malformed, said, checked, decoded}
-use Rattle.script.specs.Laws.{and-left, and-right, length-bytes}
+use lib.ListN.{length, take, drop}
+use lib.Dec.{eqb, leb}
+use borrow.Author.Tests.{leb-true, eqb-true}
+use Rattle.octets.specs.Cases.{both}
+use Rattle.decimal.specs.Decimal.{isNumber, value}
+use Rattle.script.specs.Script.{ranges, thirdAt, memory, size, repeats, isSettings, isImage, only, events, end, settingsLine, imageLine, eventsLine, wellFormed, malformed, said, checked}
 use Rattle.script.specs.declared.Script.{Script}
 
 -- an input that is not refused: its numbers are in their ranges, and its parts lie within it and are what they are to be
@@ -28,16 +27,17 @@ pub record Accepted (s : List ℕ) (r : Script) : Type 0 where
 
 in-range : (low high : ℕ) (s : List ℕ) → ranges low high s ≡ true → (low ≤ value 0 s) × (value 0 s ≤ high)
 in-range low high s e =
-    let both = and-right (isNumber s) (leb low (value 0 s) && leb (value 0 s) high) e in
-    (leb-true _ _ (and-left (leb low (value 0 s)) (leb (value 0 s) high) both), leb-true _ _ (and-right (leb low (value 0 s)) (leb (value 0 s) high) both))
+    let h = both (leb low (value 0 s)) (leb (value 0 s) high) (both (isNumber s) (leb low (value 0 s) && leb (value 0 s) high) e .1) in
+    (leb-true _ _ (h .0), leb-true _ _ (h .1))
 
 -- the five tests in turn
 parts : (a b c d e : Bool) → a && (b && (c && (d && e))) ≡ true → (a ≡ true) × (b ≡ true) × (c ≡ true) × (d ≡ true) × (e ≡ true)
 parts a b c d e h =
-    let i = and-right a (b && (c && (d && e))) h in
-    let j = and-right b (c && (d && e)) i in
-    let k = and-right c (d && e) j in
-    (and-left a (b && (c && (d && e))) h, and-left b (c && (d && e)) i, and-left c (d && e) j, and-left d e k, and-right d e k)
+    let i = both a (b && (c && (d && e))) h in
+    let j = both b (c && (d && e)) (i .1) in
+    let k = both c (d && e) (j .1) in
+    let l = both d e (k .1) in
+    (i .0, j .0, k .0, l .0, l .1)
 
 said-accepted : (s : List ℕ) → wellFormed s ≡ true → Accepted s (said s)
 said-accepted s h =
@@ -69,21 +69,3 @@ pub accepted : (s : List ℕ) (r : Script) → r ≡ checked s → r .refusal �
 accepted s r e h =
     let p = picked (wellFormed s) r (said s) malformed e (λ z. omega arith) h in
     subst (λ (t : Script). Accepted s t) (sym (p .1)) (said-accepted s (p .0))
-
--- the bytes written are within the buffer, which keeps its length
-pub decoded-within : (digits out : List ℕ) → (decoded digits out .answer .length ≤ length out) × (length (decoded digits out .buffer) ≡ length out)
-decoded-within digits out =
-    by-cases (λ (o : Output). (o .answer .length ≤ length out) × (length (o .buffer) ≡ length out)) (isImage digits)
-    (λ i.
-    by-cases (λ (o : Output). (o .answer .length ≤ length out) × (length (o .buffer) ≡ length out)) (ltb (length out) (length (bytes digits)))
-    (λ e. (omega arith, refl))
-    (λ e.
-    let h = ltb-false (length out) (length (bytes digits)) e in
-    (h, simp (length-append, length-drop) (omega arith))))
-    (λ i. (omega arith, refl))
-
--- an image and a buffer that is long enough are not refused
-pub decoded-whole : (digits out : List ℕ) → isImage digits ≡ true → length digits / 2 ≤ length out
-    → decoded digits out ≡ record { answer = written (length (bytes digits)); buffer = bytes digits ++ drop (length (bytes digits)) out }
-decoded-whole digits out i h =
-    rw (i, le-ltb (length out) (length (bytes digits)) (omega (arith, length-bytes digits)))

@@ -1,14 +1,15 @@
 -- What the parts' answers say.
 use Prim.Native.Nat.{ℕ, _<_, _≤_}
-use mathlib.Core.Bool.{Bool, true, false, cond as pick}
+use mathlib.Core.Bool.{Bool, true, false, _&&_, cond as pick}
 use mathlib.Core.Path.{_≡_, refl, ap}
 use mathlib.Core.List.{List}
 use native.Mathlib.Omega.{arith}
 use lib.Dec.{leb}
 use borrow.Author.Tests.{leb-true}
-use Rattle.script.specs.Script.{isNumber, value, ranges, memory, size, repeats, isSettings}
+use Rattle.octets.specs.Cases.{both}
+use Rattle.decimal.specs.Decimal.{isNumber, value}
+use Rattle.script.specs.Script.{ranges, memory, size, repeats, isSettings}
 use Rattle.script.specs.Inner.{number, numbers, unsettled, settings}
-use Rattle.script.specs.Laws.{and-right}
 use Rattle.script.specs.declared.Numbers.{Numbers}
 
 -- a number up to 9,999 is one in the range, and any other answer says that there is none
@@ -25,7 +26,7 @@ module _ (low high : ℕ) (s : List ℕ) (r : ℕ) (e : r ≡ number low high s)
     where
       go : (b : Bool) → ranges low high s ≡ b → r ≡ pick b (value 0 s) 10000 → b ≡ false
       go true t f =
-          let most = leb-true (value 0 s) high (and-right (leb low (value 0 s)) (leb (value 0 s) high) (and-right (isNumber s) _ t)) in
+          let most = leb-true (value 0 s) high (both (leb low (value 0 s)) (leb (value 0 s) high) (both (isNumber s) (leb low (value 0 s) && leb (value 0 s) high) t .1) .1) in
           absurd (omega arith)
       go false t f = refl
 

@@ -2,7 +2,8 @@
 use Prim.Native.Nat.{ℕ}
 use mathlib.Core.Bool.{true, false, cond as pick}
 use mathlib.Core.List.{List}
-use Rattle.script.specs.Script.{value, ranges, memory, size, repeats, isSettings}
+use Rattle.decimal.specs.Decimal.{value}
+use Rattle.script.specs.Script.{ranges, memory, size, repeats, isSettings}
 use Rattle.script.specs.declared.Numbers.{Numbers}
 
 -- a number from low to high; 10,000 for anything else

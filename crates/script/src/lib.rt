@@ -1,12 +1,10 @@
-// The rehearsal program's input: its check, and the image's bytes (paper 01, 'Rehearsal program and its transcript').
+// The rehearsal program's input: its check, and where its parts stand (paper 01, 'Rehearsal program and its transcript').
 ghost use mathlib.Core.Path.{_≡_};
-ghost use mathlib.Core.Bool.{true};
-ghost use Prim.Native.Nat.{_+_, _/_, _≤_, _<_, min};
-ghost use lib.ListN.{length, getD, drop};
-ghost use Rattle.octets.specs.Lay.{Came};
-ghost use Rattle.script.specs.Script.{place, only, decimal, isNumber, value, hexadecimal, isImage, bytes, malformed, checked, decoded};
+ghost use Prim.Native.Nat.{_+_, _≤_, _<_};
+ghost use lib.ListN.{length, drop};
+ghost use Rattle.bytes.specs.Bytes.{indexOf};
+ghost use Rattle.script.specs.Script.{only, malformed, checked};
 ghost use Rattle.script.specs.Inner.{number, settings, unsettled};
-use octets::Written;
 
 // What the three lines say; a refusal (10) with all else 0.
 pub struct Script {
@@ -30,16 +28,12 @@ struct Numbers {
 
 // The place of the first b from a place on, or the end.
 fn find(s: &[u8], b: u8, from: usize) -> usize
-    ensures { λ r. ⌜ r ≡ from + place b (drop from (now (s .entry))) ⌝ }
+    ensures { λ r. ⌜ r ≡ from + indexOf b (drop from (now (s .entry))) ⌝ }
 {
-    let mut i = from;
-    while i < s.len() {
-        if s[i] == b {
-            return i;
-        }
-        i += 1;
+    if s.len() < from {
+        return from;
     }
-    i
+    bytes::scan::find(s, from, s.len(), b)
 }
 
 // Every character is one of the letters.
@@ -56,63 +50,15 @@ fn only(letters: &[u8], s: &[u8]) -> bool
     true
 }
 
-// The value of a decimal digit; 10 for any other character.
-fn digit(c: u8) -> usize
-    ensures { λ r. ⌜ r ≡ place c decimal ⌝ }
-{
-    find(b"0123456789", c, 0)
-}
-
-// The value of a capital hexadecimal digit; 16 for any other character.
-fn nibble(c: u8) -> usize
-    ensures { λ r. ⌜ r ≡ place c hexadecimal ⌝ }
-{
-    find(b"0123456789ABCDEF", c, 0)
-}
-
-fn is_number(s: &[u8]) -> bool
-    ensures { λ r. ⌜ r ≡ isNumber (now (s .entry)) ⌝ }
-{
-    if !only(b"0123456789", s) {
-        return false;
-    }
-    if s.len() < 1 {
-        return false;
-    }
-    if s.len() == 1 {
-        return true;
-    }
-    if s[0] == b'0' {
-        return false;
-    }
-    true
-}
-
-// The value of digits, at most 10,000.
-fn value(s: &[u8]) -> usize
-    ensures { λ r. ⌜ r ≡ min (value 0 (now (s .entry))) 10000 ⌝ }
-{
-    let mut n = 0;
-    let mut i = 0;
-    while i < s.len() {
-        n = n * 10 + digit(s[i]);
-        if 9999 < n {
-            return 10000;
-        }
-        i += 1;
-    }
-    n
-}
-
 // A number from low to high; 10,000 for anything else.
 fn number(s: &[u8], low: usize, high: usize) -> usize
     requires { ⌜ (low ≤ high) × (high < 10000) ⌝ }
     ensures { λ r. ⌜ r ≡ number low high (now (s .entry)) ⌝ }
 {
-    if !is_number(s) {
+    if !decimal::is_number(s) {
         return 10000;
     }
-    let n = value(s);
+    let n = decimal::value(s);
     if n < low {
         return 10000;
     }
@@ -165,16 +111,6 @@ fn settings(line: &[u8]) -> Numbers
     }
 }
 
-// An even number of hexadecimal digits.
-fn is_image(s: &[u8]) -> bool
-    ensures { λ r. ⌜ r ≡ isImage (now (s .entry)) ⌝ }
-{
-    if !only(b"0123456789ABCDEF", s) {
-        return false;
-    }
-    s.len() % 2 == 0
-}
-
 fn malformed() -> Script
     ensures { λ r. ⌜ r ≡ malformed ⌝ }
 {
@@ -209,7 +145,7 @@ pub fn check(input: &[u8]) -> Script
     if !line.fine {
         return malformed();
     }
-    if !is_image(&input[image_at..second]) {
+    if !hexadecimal::is_hexadecimal(&input[image_at..second]) {
         return malformed();
     }
     if !only(b"hkxtuymn", &input[events_at..third]) {
@@ -223,43 +159,6 @@ pub fn check(input: &[u8]) -> Script
         events_length: third - events_at,
         segment_size: line.size,
         repeats: line.repeats,
-        refusal: 0,
-    }
-}
-
-// Byte k of the image.
-fn byte(digits: &[u8], k: usize) -> u8
-    requires { ⌜ (isImage (now digits) ≡ true) × (k < length (now digits) / 2) ⌝ }
-    ensures { λ r. ⌜ r ≡ getD (bytes (now (digits .entry))) k 0 ⌝ }
-{
-    (nibble(digits[2 * k]) * 16 + nibble(digits[2 * k + 1])) as u8
-}
-
-// The bytes that capital hexadecimal digits spell, into a lent buffer: 10 for an odd number of digits or something else
-// than a digit, then 9 for a short buffer. A refusal leaves the buffer as it was; bytes past the written ones stay.
-pub fn decode(digits: &[u8], out: &mut [u8]) -> Written
-    ensures { λ r. ⌜ Came (decoded (now (digits .entry)) (now (out .entry))) r (now (out .exit)) ⌝ }
-{
-    if !is_image(digits) {
-        return Written {
-            length: 0,
-            refusal: 10,
-        };
-    }
-    let n = digits.len() / 2;
-    if out.len() < n {
-        return Written {
-            length: 0,
-            refusal: 9,
-        };
-    }
-    let mut i = 0;
-    while i < n {
-        out[i] = byte(digits, i);
-        i += 1;
-    }
-    Written {
-        length: n,
         refusal: 0,
     }
 }

@@ -1,6 +1,6 @@
 use mathlib.Core.List.{[]}
 use native.Mathlib.Omega.{arith}
-use Rattle.listing.specs.Listing.{placed-whole}
+use Rattle.text.specs.Laws.{placed-whole}
 use borrow.Author.Needs.{needs}
 use Rattle.listing.proofs.close.Statement.{statement}
 use Rattle.listing.proofs.close.Tie as tie

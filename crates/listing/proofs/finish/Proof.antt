@@ -1,6 +1,4 @@
-use native.Mathlib.Omega.{arith}
-use lib.ListN.{length-take}
-use Rattle.listing.specs.Over.{take-min}
+use mathlib.Core.Path.{sym, _∙_}
 use borrow.Author.Needs.{needs}
 use Rattle.listing.proofs.finish.Statement.{statement}
 use Rattle.listing.proofs.finish.Tie as tie
@@ -18,13 +16,12 @@ same-length : tie.Need-same-length
 same-length c = search needs
 
 returns : tie.Need-returns
-returns c = rw (← c .before .before .before .before .before .before .is-foul .ensures, c .before .before .before .before .before .if1 .taken) (c .before .before .place .ensures)
+returns c =
+    let went = c .before .before .before .before .before in
+    rw (sym (went .before .is-foul .ensures) ∙ went .if1 .taken) (c .before .before .place .ensures)
 
-least-requires : tie.Need-least-requires
-least-requires c κs = search needs
-
-slice-aggregate-show : tie.Need-slice-aggregate-show
-slice-aggregate-show c = simp length-take (omega arith)
+part-requires : tie.Need-part-requires
+part-requires c κs = search needs
 
 show-requires : tie.Need-show-requires
 show-requires c κs = search needs
@@ -34,8 +31,8 @@ same-length-2 c = search needs
 
 returns-2 : tie.Need-returns-2
 returns-2 c =
-    let a = c .before .before .before .before .before .before .before .before .before .before .args in
-    rw (← c .before .before .before .before .before .before .before .is-foul .ensures, c .before .before .before .before .before .before .if1 .left, ← take-min (a .line .length) (a .buffer .now), ← c .before .before .before .before .before .least .ensures) (c .before .before .show .ensures)
+    let went = c .before .before .before .before .before in
+    rw (sym (went .before .is-foul .ensures) ∙ went .if1 .left, ← c .before .before .before .before .part .ensures) (c .before .before .show .ensures)
 
 pub finish-spec : {M : Type 1} → statement M
 finish-spec =
@@ -46,8 +43,7 @@ finish-spec =
     place-requires
     same-length
     returns
-    least-requires
-    slice-aggregate-show
+    part-requires
     show-requires
     same-length-2
     returns-2)

@@ -1,7 +1,7 @@
 use borrow.Author.Needs.{needs}
 use native.Mathlib.Omega.{arith}
 use borrow.Author.Tests.{lt-leb, le-leb, not-true, not-false}
-use Rattle.script.specs.Script.{value}
+use Rattle.decimal.specs.Decimal.{value}
 use Rattle.script.proofs.number.Statement.{statement}
 use Rattle.script.proofs.number.Tie as tie
 
@@ -15,13 +15,19 @@ value-requires : tie.Need-value-requires
 value-requires c κs = search needs
 
 returns-2 : tie.Need-returns-2
-returns-2 c = rw (← c .before .before .before .is-number .ensures, not-false (c .before .before .before .is-number .result) (c .before .before .if1 .left), lt-leb (c .before .before .before .before .before .args .low) (value 0 (c .before .before .before .before .before .args .s .now)) (omega arith))
+returns-2 c =
+    let went = c .before .before .before .before .before in
+    rw (← c .before .before .before .is-number .ensures, not-false (c .before .before .before .is-number .result) (c .before .before .if1 .left), lt-leb (went .args .low) (value 0 (went .args .s .now)) (omega arith))
 
 returns-3 : tie.Need-returns-3
-returns-3 c = rw (← c .before .before .before .before .is-number .ensures, not-false (c .before .before .before .before .is-number .result) (c .before .before .before .if1 .left), le-leb (c .before .before .before .before .before .before .args .low) (value 0 (c .before .before .before .before .before .before .args .s .now)) (omega arith), lt-leb (value 0 (c .before .before .before .before .before .before .args .s .now)) (c .before .before .before .before .before .before .args .high) (omega arith))
+returns-3 c =
+    let went = c .before .before .before .before .before .before in
+    rw (← c .before .before .before .before .is-number .ensures, not-false (c .before .before .before .before .is-number .result) (c .before .before .before .if1 .left), le-leb (went .args .low) (value 0 (went .args .s .now)) (omega arith), lt-leb (value 0 (went .args .s .now)) (went .args .high) (omega arith))
 
 returns-4 : tie.Need-returns-4
-returns-4 c = rw (← c .before .before .before .before .is-number .ensures, not-false (c .before .before .before .before .is-number .result) (c .before .before .before .if1 .left), le-leb (c .before .before .before .before .before .before .args .low) (value 0 (c .before .before .before .before .before .before .args .s .now)) (omega arith), le-leb (value 0 (c .before .before .before .before .before .before .args .s .now)) (c .before .before .before .before .before .before .args .high) (omega arith)) (omega arith)
+returns-4 c =
+    let went = c .before .before .before .before .before .before in
+    rw (← c .before .before .before .before .is-number .ensures, not-false (c .before .before .before .before .is-number .result) (c .before .before .before .if1 .left), le-leb (went .args .low) (value 0 (went .args .s .now)) (omega arith), le-leb (value 0 (went .args .s .now)) (went .args .high) (omega arith)) (omega arith)
 
 pub number-spec : {M : Type 1} → statement M
 number-spec =

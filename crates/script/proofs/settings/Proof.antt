@@ -10,7 +10,7 @@ use borrow.Author.Needs.{needs}
 use borrow.Author.Tests.{lt-leb, le-leb}
 use Rattle.script.specs.Script.{secondAt, thirdAt, memory, size, repeats}
 use Rattle.script.specs.Inner.{number}
-use Rattle.script.specs.Laws.{Cut, cut, cut-first, place-within}
+use Rattle.script.specs.Laws.{Cut, cut, cut-first, index-within}
 use Rattle.script.specs.Answers.{in-range, no-number}
 use Rattle.script.proofs.settings.Statement.{statement}
 use Rattle.script.proofs.settings.Tie as tie
@@ -33,22 +33,23 @@ second-is c = rw (second (c .before .before .before .before .before .before) .pa
 
 third-is : (c : tie.After-number3) → c .number3 .result ≡ number 0 255 (repeats (line (c .before .before .before .before .before .before .before .before .before)))
 third-is c =
-    let l = line (c .before .before .before .before .before .before .before .before .before) in
-    let at = c .before .before .before .before .before .before .before .before .before .find2 .result + 1 in
+    let went = c .before .before .before .before .before .before .before .before .before in
+    let l = line (went) in
+    let at = went .find2 .result + 1 in
     let p = take-all (length l - at) (drop at l) (simp length-drop (omega arith)) in
-    rw (p, second (c .before .before .before .before .before .before .before .before .before) .next) at (c .number3 .ensures)
+    rw (p, second (went) .next) at (c .number3 .ensures)
 
 find-requires : tie.Need-find-requires
 find-requires c κs = tt
 
 add-second-at : tie.Need-add-second-at
-add-second-at c = omega (arith, place-within 32 (c .before .before .args .line .now) 0)
+add-second-at c = omega (arith, index-within 32 (c .before .before .args .line .now) 0)
 
 find-requires-2 : tie.Need-find-requires-2
 find-requires-2 c κs = tt
 
 add-third-at : tie.Need-add-third-at
-add-third-at c = omega (arith, place-within 32 (line c) 0, place-within 32 (line c) (c .before .find .result + 1))
+add-third-at c = omega (arith, index-within 32 (line c) 0, index-within 32 (line c) (c .before .find .result + 1))
 
 unsettled-requires : tie.Need-unsettled-requires
 unsettled-requires c κs = search needs
@@ -84,7 +85,9 @@ unsettled-requires-3 : tie.Need-unsettled-requires-3
 unsettled-requires-3 c κs = search needs
 
 returns-3 : tie.Need-returns-3
-returns-3 c = rw (two-spaces (c .before .before .before .before .before .before .before), in-range _ _ _ _ (first-is (c .before .before .before .before .before)) (c .before .before .before .before .if2 .left) .0, no-number _ _ _ _ (second-is (c .before .before)) (omega arith) (c .before .if3 .taken)) (c .unsettled3 .ensures)
+returns-3 c =
+    let went = c .before .before .before .before .before in
+    rw (two-spaces (went .before .before), in-range _ _ _ _ (first-is (went)) (c .before .before .before .before .if2 .left) .0, no-number _ _ _ _ (second-is (c .before .before)) (omega arith) (c .before .if3 .taken)) (c .unsettled3 .ensures)
 
 sub-number-2 : tie.Need-sub-number-2
 sub-number-2 c = search needs
@@ -102,7 +105,9 @@ unsettled-requires-4 : tie.Need-unsettled-requires-4
 unsettled-requires-4 c κs = search needs
 
 returns-4 : tie.Need-returns-4
-returns-4 c = rw (two-spaces (c .before .before .before .before .before .before .before .before .before .before), in-range _ _ _ _ (first-is (c .before .before .before .before .before .before .before .before)) (c .before .before .before .before .before .before .before .if2 .left) .0, in-range _ _ _ _ (second-is (c .before .before .before .before .before)) (c .before .before .before .before .if3 .left) .0, no-number _ _ _ _ (third-is (c .before .before)) (omega arith) (c .before .if4 .taken)) (c .unsettled4 .ensures)
+returns-4 c =
+    let went = c .before .before .before .before .before in
+    rw (two-spaces (went .before .before .before .before .before), in-range _ _ _ _ (first-is (went .before .before .before)) (went .before .before .if2 .left) .0, in-range _ _ _ _ (second-is (went)) (c .before .before .before .before .if3 .left) .0, no-number _ _ _ _ (third-is (c .before .before)) (omega arith) (c .before .if4 .taken)) (c .unsettled4 .ensures)
 
 cast-t19 : tie.Need-cast-t19
 cast-t19 c = search needs
@@ -111,7 +116,9 @@ cast-t20 : tie.Need-cast-t20
 cast-t20 c = search needs
 
 returns-5 : tie.Need-returns-5
-returns-5 c = let m = in-range _ _ _ _ (first-is (c .before .before .before .before .before .before .before)) (c .before .before .before .before .before .before .if2 .left) in let z = in-range _ _ _ _ (second-is (c .before .before .before .before)) (c .before .before .before .if3 .left) in let r = in-range _ _ _ _ (third-is (c .before)) (c .if4 .left) in rw (two-spaces (c .before .before .before .before .before .before .before .before .before), m .0, z .0, r .0, m .1, z .1, r .1)
+returns-5 c =
+    let went = c .before .before .before .before .before .before in
+    let m = in-range _ _ _ _ (first-is (went .before)) (went .if2 .left) in let z = in-range _ _ _ _ (second-is (c .before .before .before .before)) (c .before .before .before .if3 .left) in let r = in-range _ _ _ _ (third-is (c .before)) (c .if4 .left) in rw (two-spaces (went .before .before .before), m .0, z .0, r .0, m .1, z .1, r .1)
 
 pub settings-spec : {M : Type 1} → statement M
 settings-spec =

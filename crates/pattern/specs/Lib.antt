@@ -1,0 +1,3 @@
+pub mod Pattern
+pub mod Laws
+pub mod Most
