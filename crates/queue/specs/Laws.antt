@@ -1,13 +1,15 @@
 -- First in, first out, and no frame that waits is overwritten.
 use Prim.Native.Nat.{ℕ, zero, suc, _+_, _-_, _%_, _<_, _≤_}
 use mathlib.Core.Path.{_≡_, refl, ap}
+use mathlib.Core.Bool.{false}
 use mathlib.Core.List.{List, [], _∷_, _++_}
 use native.Mathlib.Omega.{arith}
 use native.Mathlib.Numerals.{add-one}
-use lib.ListN.{length, getD}
+use lib.ListN.{length, getD, set}
 use lib.Seq.{getD-set-same, getD-set-other}
 use borrow.Author.Tests.{le-leb, lt-leb, ne-eqb}
-use Rattle.queue.specs.Queue.{empty, front, free, join, leave}
+use Rattle.octets.specs.Lay.{put}
+use Rattle.queue.specs.Queue.{empty, isFull, front, free, join, leave, stored}
 use Rattle.queue.specs.declared.Queue.{Queue}
 
 -- n places of the ring from a place on
@@ -69,3 +71,8 @@ other-length q n p h e = rw (lt-leb 16 (q .many) h, getD-set-other (q .lengths) 
 -- the free place is none of those whose frames wait
 pub free-apart : (q : Queue) (k : ℕ) → q .many < 16 → k < q .many → getD (waiting q) k 0 ≡ free q → ⊥
 free-apart q k h l e = omega (arith, places-at (q .first) (q .many) k l)
+
+-- a frame that was put into the free place is stored
+pub stored-there : (q : Queue) (frame : List ℕ) (places : List (List ℕ)) (at : ℕ) (place : List ℕ) → isFull q ≡ false → at ≡ free q → place ≡ put frame 0 (getD places at [])
+    → set places at place ≡ stored q frame places
+stored-there q frame places at place h e p = rw (h, ← e, p)

@@ -1,8 +1,10 @@
 -- A queue's places (paper 01, 'Rehearsal program and its transcript'): 16 places in a ring. The definitions hold for any record.
 use Prim.Native.Nat.{ℕ, _+_, _-_, _%_}
 use mathlib.Core.Bool.{Bool, cond as pick}
-use lib.ListN.{getD, set, replicate}
+use mathlib.Core.List.{List, []}
+use lib.ListN.{getD, set, take, replicate}
 use lib.Dec.{eqb, leb}
+use Rattle.octets.specs.Lay.{put}
 use Rattle.queue.specs.declared.Queue.{Queue}
 
 -- no frame waits
@@ -31,3 +33,11 @@ join q n = pick (isFull q) q (record { first = q .first; many = q .many + 1; len
 -- the frame in front leaves
 abbrev pub leave : Queue → Queue
 leave q = pick (eqb (q .many) 0) q (record { first = (q .first % 16 + 1) % 16; many = q .many - 1; lengths = q .lengths })
+
+-- the frame in front
+abbrev pub first : Queue → List (List ℕ) → List ℕ
+first q places = take (lengthOf q) (getD places (front q) [])
+
+-- the places with a frame in the free one; a full queue keeps them as they are
+abbrev pub stored : Queue → List ℕ → List (List ℕ) → List (List ℕ)
+stored q frame places = pick (isFull q) places (set places (free q) (put frame 0 (getD places (free q) [])))

@@ -1,7 +1,8 @@
 // The places of a queue of 16 frames: which is in front, which is free, and how long each frame is.
 ghost use mathlib.Core.Path.{_≡_};
 ghost use Prim.Native.Nat.{_<_};
-ghost use Rattle.queue.specs.Queue.{empty, isFull, front, lengthOf, free, join, leave};
+ghost use lib.ListN.{length};
+ghost use Rattle.queue.specs.Queue.{empty, isFull, front, lengthOf, free, join, leave, first, stored};
 
 // The first place in front, how many frames wait, and the length of the frame in each place.
 pub struct Queue {
@@ -78,4 +79,25 @@ pub fn leave(queue: Queue) -> Queue
     next.first = (queue.first % 16 + 1) % 16;
     next.many = queue.many - 1;
     next
+}
+
+// The frame in front; no bytes if none waits.
+pub fn first(queue: Queue, places: &[[u8; 1500]; 16]) -> &[u8]
+    ensures { λ r. ⌜ now r ≡ first queue (now (places .entry)) ⌝ }
+{
+    let at = front(queue);
+    text::part(&places[at][..], 0, length(queue))
+}
+
+// A frame joins in the free place; a full queue drops it.
+pub fn add(queue: Queue, frame: &[u8], places: &mut [[u8; 1500]; 16]) -> Queue
+    ensures { λ r. ⌜ (r ≡ join queue (length (now (frame .entry))))
+        × (now (places .exit) ≡ stored queue (now (frame .entry)) (now (places .entry))) ⌝ }
+{
+    if is_full(queue) {
+        return queue;
+    }
+    let at = free(queue);
+    octets::put(frame, &mut places[at], 0);
+    join(queue, frame.len())
 }

@@ -10,14 +10,14 @@ use Rattle.rehearse.proofs.play_in.Tie as tie
 room : (n : ℕ) → n ≤ 4096 → n ≤ length (replicate {A = ℕ} 4096 0)
 room n h = rw (length-replicate {A = ℕ} 4096 0) h
 
-least-requires : tie.Need-least-requires
-least-requires c κs = search needs
+lesser-requires : tie.Need-lesser-requires
+lesser-requires c κs = search needs
 
 array-borrow-prefix-memory : tie.Need-array-borrow-prefix-memory
 array-borrow-prefix-memory c = search needs
 
 slice-aggregate-play : tie.Need-slice-aggregate-play
-slice-aggregate-play c = sym (length-take-le (c .before .least .result) (replicate {A = ℕ} 4096 0) (room (c .before .least .result) (omega (arith, c .before .least .ensures))))
+slice-aggregate-play c = sym (length-take-le (c .before .lesser .result) (replicate {A = ℕ} 4096 0) (room (c .before .lesser .result) (omega (arith, c .before .lesser .ensures))))
 
 play-requires : tie.Need-play-requires
 play-requires c κs = search needs
@@ -28,4 +28,4 @@ returns c = search needs
 pub play-in-spec : {M : Type 1} → statement M
 play-in-spec =
     tie.close
-    (tie.spec least-requires array-borrow-prefix-memory slice-aggregate-play play-requires returns)
+    (tie.spec lesser-requires array-borrow-prefix-memory slice-aggregate-play play-requires returns)

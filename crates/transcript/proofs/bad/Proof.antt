@@ -15,6 +15,9 @@ slice-aggregate-sentence-3 c = search needs
 slice-aggregate-sentence-4 : tie.Need-slice-aggregate-sentence-4
 slice-aggregate-sentence-4 c = search needs
 
+slice-aggregate-sentence-5 : tie.Need-slice-aggregate-sentence-5
+slice-aggregate-sentence-5 c = search needs
+
 sentence-requires : tie.Need-sentence-requires
 sentence-requires c κs = search needs
 
@@ -22,7 +25,9 @@ same-length : tie.Need-same-length
 same-length c = search needs
 
 returns : tie.Need-returns
-returns c = bad-filled (c .before .before .before .before .before .before .before .before .before .args .refusal) (c .before .before .before .before .before .before .before .before .before .args .out .now) (c .before .before .sentence .ensures)
+returns c =
+    let went = c .before .before .before .before .before .before .before .before .before .before in
+    bad-filled (went .args .refusal) (went .args .out .now) (c .before .before .sentence .ensures)
 
 pub bad-spec : {M : Type 1} → statement M
 bad-spec =
@@ -32,6 +37,7 @@ bad-spec =
     slice-aggregate-sentence-2
     slice-aggregate-sentence-3
     slice-aggregate-sentence-4
+    slice-aggregate-sentence-5
     sentence-requires
     same-length
     returns)
