@@ -5,43 +5,13 @@ use std::hint::black_box;
 use std::time::{Duration, Instant};
 
 use mop_plain::{dump, machine};
-use mop_proved::{Dump, DumpSettings, Machine, MachineSettings, Step};
+use mop_proved::{Dump, DumpSettings, Machine, MachineSettings};
+use mop_proved::{mop_dump_frame, mop_dump_start, mop_machine_frame, mop_machine_start_dump};
 
 const LENGTH: usize = 16 << 20;
 const MOST: u32 = 1495;
 const REPEATS: u32 = 3;
 const ROUNDS: usize = 41;
-
-unsafe extern "C" {
-    fn mop_machine_start_dump(
-        settings: MachineSettings,
-        memory: *const u8,
-        memory_length: usize,
-        reply: *mut u8,
-        reply_length: usize,
-    ) -> Step<Machine>;
-    fn mop_machine_frame(
-        settings: MachineSettings,
-        machine: Machine,
-        frame: *const u8,
-        frame_length: usize,
-        memory: *mut u8,
-        memory_length: usize,
-        reply: *mut u8,
-        reply_length: usize,
-    ) -> Step<Machine>;
-    fn mop_dump_start() -> Dump;
-    fn mop_dump_frame(
-        settings: DumpSettings,
-        session: Dump,
-        frame: *const u8,
-        frame_length: usize,
-        buffer: *mut u8,
-        buffer_length: usize,
-        reply: *mut u8,
-        reply_length: usize,
-    ) -> Step<Dump>;
-}
 
 /// Both ends of one implementation. Each call gives the length of the frame
 /// to send, 0 for none.
@@ -59,14 +29,14 @@ struct Proved {
 }
 
 const MACHINE: MachineSettings = MachineSettings {
-    dump_most: MOST,
+    reply_bytes: MOST,
     device: 0,
     processor: 0,
 };
 const HOST: DumpSettings = DumpSettings {
     length: LENGTH as u64,
     address: 0,
-    most: MOST,
+    request_bytes: MOST,
     repeats: REPEATS,
 };
 

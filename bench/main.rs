@@ -1,32 +1,25 @@
 //! How long the proved library takes beside the plain implementation: the
-//! reader, the image check, the segment call, and a dump between two ends.
+//! reader, the image check, the segment call, a load's step that sends, and a
+//! dump between two ends.
 //!
 //! Both get the same inputs in one run, in turns, and borrow what they read:
-//! neither allocates, and but for the dump no buffer is written. Each is
-//! called directly, as a driver would call it.
+//! neither allocates, and but for the load and the dump no buffer is written.
+//! Each is called directly, as a driver would call it.
 
 mod dump;
+mod load;
 
 use std::hint::black_box;
 use std::time::{Duration, Instant};
 
-/// The header's calls. The functions of `mop_proved` are for the comparison:
-/// each is a further call, which picks null pointers for empty slices.
+/// The header's calls. The safe functions of `mop_proved` are for the
+/// comparison: each is a further call, which picks null pointers for empty
+/// slices.
 mod proved {
-    use mop_proved::{Frame, Image, Segment};
+    use mop_proved::{Fields, Image, Segment};
+    use mop_proved::{mop_image_check, mop_image_segment, mop_read};
 
-    unsafe extern "C" {
-        fn mop_read(frame: *const u8, length: usize) -> Frame;
-        fn mop_image_check(file: *const u8, length: usize, segment_size: u32) -> Image;
-        fn mop_image_segment(
-            file: *const u8,
-            length: usize,
-            segment_size: u32,
-            index: u64,
-        ) -> Segment;
-    }
-
-    pub fn read(frame: &[u8]) -> Frame {
+    pub fn read(frame: &[u8]) -> Fields {
         unsafe { mop_read(frame.as_ptr(), frame.len()) }
     }
 
@@ -76,6 +69,7 @@ fn main() {
         let file = image(regions, 60_000);
         check(&format!("image check, {name}"), &file);
         segment(&format!("image segment, {name}"), &file);
+        load::step(&format!("load step, {name}"), &file);
     }
     print("dump of 16 MiB, a frame", &dump::rounds());
 }
@@ -134,14 +128,14 @@ fn segment(name: &str, file: &[u8]) {
 }
 
 /// Times both over the inputs, in turns, and prints a line.
-fn compare<T>(name: &str, inputs: &[T], proved: impl Fn(&T), plain: impl Fn(&T)) {
-    let passes = passes(inputs, &proved).max(passes(inputs, &plain));
+fn compare<T>(name: &str, inputs: &[T], mut proved: impl FnMut(&T), mut plain: impl FnMut(&T)) {
+    let passes = passes(inputs, &mut proved).max(passes(inputs, &mut plain));
     let calls = (passes * inputs.len()) as f64;
     let mut rounds = Vec::new();
     for round in 0..ROUNDS {
-        let early = (round % 2 == 0).then(|| turn(inputs, passes, &proved));
-        let plain = turn(inputs, passes, &plain);
-        let proved = early.unwrap_or_else(|| turn(inputs, passes, &proved));
+        let early = (round % 2 == 0).then(|| turn(inputs, passes, &mut proved));
+        let plain = turn(inputs, passes, &mut plain);
+        let proved = early.unwrap_or_else(|| turn(inputs, passes, &mut proved));
         let nanoseconds = |time: Duration| time.as_nanos() as f64 / calls;
         rounds.push((nanoseconds(proved), nanoseconds(plain)));
     }
@@ -160,15 +154,15 @@ fn print(name: &str, rounds: &[(f64, f64)]) {
 }
 
 /// How many passes over the inputs make a turn long enough.
-fn passes<T>(inputs: &[T], call: impl Fn(&T)) -> usize {
+fn passes<T>(inputs: &[T], mut call: impl FnMut(&T)) -> usize {
     let mut passes = 1;
-    while turn(inputs, passes, &call) < TURN {
+    while turn(inputs, passes, &mut call) < TURN {
         passes *= 2;
     }
     passes
 }
 
-fn turn<T>(inputs: &[T], passes: usize, call: impl Fn(&T)) -> Duration {
+fn turn<T>(inputs: &[T], passes: usize, mut call: impl FnMut(&T)) -> Duration {
     let start = Instant::now();
     for _ in 0..passes {
         for input in inputs {

@@ -5,10 +5,26 @@
 
 #include "words.h"
 
-int host_machine(host *h, const char *text)
+int host_option(host *h, int option, const char *value, uint32_t *repeats)
 {
-    h->named = true;
-    return option_address("--machine", text, h->machine);
+    switch (option) {
+    case 'R':
+        return option_small("-R", value, 0, MOP_REPEATS_MOST, repeats);
+    case OPTION_MACHINE:
+        h->named = true;
+        return option_address("--machine", value, h->machine);
+    default:
+        return common_option(option, value, &h->settings);
+    }
+}
+
+host_stage host_stage_of(uint8_t waiting, uint8_t verdict, uint64_t taken)
+{
+    if (waiting)
+        return HOST_WAITING;
+    if (verdict != 0)
+        return HOST_OVER;
+    return taken == 0 ? HOST_FIRST : HOST_UNDER_WAY;
 }
 
 int host_open(host *h)
@@ -34,9 +50,12 @@ static int step(host *h, const line_frame *frame)
     uint8_t reply[MESSAGE_MOST];
     mop_written answer = frame == NULL ? h->calls->step(h->job, 1, NULL, 0, reply, sizeof reply)
                                        : h->calls->step(h->job, 0, frame->bytes, frame->length, reply, sizeof reply);
-    if (answer.refusal > 4)
+    if (mop_refused_frame(answer.refusal)) {
+        h->unreadable += 1;
+        return 0;
+    }
+    if (answer.refusal != MOP_ACCEPTED)
         return complain(STATUS_OTHER, "the step is refused: %s", refusal_words(answer.refusal));
-    h->unreadable += answer.refusal != 0;
     if (answer.length == 0)
         return 0;
     h->due = clock_now() + h->settings.timer;
@@ -89,21 +108,13 @@ int host_run(host *h)
     int status = 0;
     h->due = clock_now() + (int64_t)h->settings.wait * 1000;
     while (status == 0 && h->calls->stage(h->job) != HOST_OVER) {
-        switch (line_receive(&h->line, &frame, h->due)) {
-        case LINE_FRAME:
+        line_event event = line_receive(&h->line, &frame, h->due);
+        if (event == LINE_FRAME)
             status = take(h, &frame);
-            if (status == 0 && clock_now() >= h->due) /* frames that mean nothing do not stop the timer */
-                status = silence(h);
-            break;
-        case LINE_QUIET:
+        else if (event != LINE_QUIET)
+            status = line_over(event);
+        if (status == 0 && clock_now() >= h->due) /* frames that mean nothing do not stop the timer */
             status = silence(h);
-            break;
-        case LINE_SIGNAL:
-            status = complain(STATUS_INTERRUPTED, "interrupted by a signal");
-            break;
-        default:
-            status = STATUS_INTERFACE;
-        }
         h->calls->show(h->job);
     }
     return status;

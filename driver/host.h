@@ -39,8 +39,21 @@ typedef struct host {
     void *job;
 } host;
 
-/* --machine */
-int host_machine(host *h, const char *text);
+/* The options that a load and a dump both have, beside those of all programs;
+ * OPTION_JOB is the first number for their own. */
+enum { OPTION_MACHINE = OPTION_OWN, OPTION_JOB };
+
+#define HOST_OPTIONS                                                                                                   \
+    LINE_OPTIONS, {"repeats", required_argument, NULL, 'R'},                                                           \
+    {                                                                                                                  \
+        "machine", required_argument, NULL, OPTION_MACHINE                                                             \
+    }
+
+/* Takes an option that is not the job's own: 0 or an exit status. */
+int host_option(host *h, int option, const char *value, uint32_t *repeats);
+
+/* The stage of a record; taken counts what the machine has answered. */
+host_stage host_stage_of(uint8_t waiting, uint8_t verdict, uint64_t taken);
 
 /* Opens the line and says so. 0 or an exit status. */
 int host_open(host *h);

@@ -280,3 +280,10 @@ line_event line_receive(line *l, line_frame *frame, int64_t deadline)
             return event;
     }
 }
+
+int line_over(line_event event)
+{
+    if (event == LINE_SIGNAL)
+        return complain(STATUS_INTERRUPTED, "interrupted by a signal");
+    return STATUS_INTERFACE; /* line_receive has said it */
+}

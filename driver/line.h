@@ -75,6 +75,9 @@ int line_send(line *l, const uint8_t *to, const uint8_t *message, size_t length)
 /* The next message for this end, until the clock shows the deadline. */
 line_event line_receive(line *l, line_frame *frame, int64_t deadline);
 
+/* The exit status of a signal or a broken line, with the reason said. */
+int line_over(line_event event);
+
 /* Milliseconds of a clock that never goes back. */
 int64_t clock_now(void);
 

@@ -14,19 +14,18 @@
 
 #define ASK_MOST 1493 /* code 14 with more is above the Ethernet limit */
 #define REPLY_REST 5  /* what code 14 has beside the data */
-#define CODE_REQUEST_DUMP_SERVICE 12
 #define RECORD_MOST 8192
 #define PATH_LENGTH 4096
 
-enum { OPTION_MACHINE = OPTION_OWN, OPTION_FROM, OPTION_LENGTH };
+enum { OPTION_FROM = OPTION_JOB, OPTION_LENGTH };
 
 typedef struct dumping {
     mop_dump_settings settings;
     mop_dump session;
     uint8_t *buffer;
     const char *path;
-    bool from;       /* --from was given */
-    mop_frame offer; /* the machine's, once it came */
+    bool from;        /* --from was given */
+    mop_fields offer; /* the machine's, once it came */
     const host *host;
     aside file;
     bool begun;
@@ -38,8 +37,8 @@ typedef struct dumping {
 static void before(void *job, line_frame *frame)
 {
     dumping *d = job;
-    mop_frame offer = mop_read(frame->bytes, frame->length);
-    if (d->session.waiting && offer.code == CODE_REQUEST_DUMP_SERVICE)
+    mop_fields offer = mop_read(frame->bytes, frame->length);
+    if (d->session.waiting && offer.code == MOP_CODE_REQUEST_DUMP_SERVICE)
         d->offer = offer;
 }
 
@@ -48,7 +47,7 @@ static mop_written step(
 {
     dumping *d = job;
     return mop_dump_update(
-        &d->session, d->settings, timer, frame, frame_length, d->buffer, d->settings.length, reply, reply_length);
+        d->settings, &d->session, timer, frame, frame_length, d->buffer, d->settings.length, reply, reply_length);
 }
 
 /* A step that begins does not write to the buffer. */
@@ -58,18 +57,14 @@ static bool begins(const void *job, const line_frame *frame)
     uint8_t reply[MESSAGE_MOST];
     mop_dump trial = mop_dump_start();
     mop_dump_update(
-        &trial, d->settings, 0, frame->bytes, frame->length, d->buffer, d->settings.length, reply, sizeof reply);
+        d->settings, &trial, 0, frame->bytes, frame->length, d->buffer, d->settings.length, reply, sizeof reply);
     return trial.waiting == 0;
 }
 
 static host_stage stage(const void *job)
 {
     const mop_dump *session = &((const dumping *)job)->session;
-    if (session->waiting)
-        return HOST_WAITING;
-    if (session->verdict != 0)
-        return HOST_OVER;
-    return session->filled == 0 ? HOST_FIRST : HOST_UNDER_WAY;
+    return host_stage_of(session->waiting, session->verdict, session->filled);
 }
 
 static void show(void *job)
@@ -140,31 +135,21 @@ static int option(int c, const char *value, host *h, dumping *d)
         d->path = value;
         return 0;
     case 'C':
-        return option_small("-C", value, 1, ASK_MOST, &d->settings.most);
-    case 'R':
-        return option_small("-R", value, 0, 255, &d->settings.repeats);
-    case OPTION_MACHINE:
-        return host_machine(h, value);
+        return option_small("-C", value, 1, ASK_MOST, &d->settings.request_bytes);
     case OPTION_FROM:
         d->from = true;
         return option_small("--from", value, 0, UINT32_MAX, &d->settings.address);
     case OPTION_LENGTH:
         return option_number("--length", value, 1, (uint64_t)UINT32_MAX + 1, &d->settings.length);
-    case 'h':
-        help();
-        exit(STATUS_FINISHED);
-    case '?':
-        return complain(STATUS_USAGE, "see --help");
     default:
-        return common_option(c, value, &h->settings);
+        return host_option(h, c, value, &d->settings.repeats);
     }
 }
 
 static int options(int count, char **words, host *h, dumping *d)
 {
-    static const struct option known[] = {LINE_OPTIONS, {"output", required_argument, NULL, 'o'},
-        {"count", required_argument, NULL, 'C'}, {"repeats", required_argument, NULL, 'R'},
-        {"machine", required_argument, NULL, OPTION_MACHINE}, {"from", required_argument, NULL, OPTION_FROM},
+    static const struct option known[] = {HOST_OPTIONS, {"output", required_argument, NULL, 'o'},
+        {"count", required_argument, NULL, 'C'}, {"from", required_argument, NULL, OPTION_FROM},
         {"length", required_argument, NULL, OPTION_LENGTH}, {NULL, 0, NULL, 0}};
     for (int c = 0; (c = getopt_long(count, words, "i:o:C:R:h", known, NULL)) != -1;) {
         int status = option(c, optarg, h, d);
@@ -222,7 +207,7 @@ static void write_numbers(const dumping *d, int status, FILE *out)
         fprintf(out, "machine: %s, device %d, memory size %" PRIu32 "\n", address_text(d->host->machine, machine),
             d->offer.device, d->offer.memory_size);
     fprintf(out, "range: from 0x%08" PRIX32 ", length %" PRIu64 "\n", d->settings.address, d->settings.length);
-    fprintf(out, "settings: C %" PRIu32 ", R %" PRIu32 ", timer %" PRIu32 " ms\n", d->settings.most,
+    fprintf(out, "settings: C %" PRIu32 ", R %" PRIu32 ", timer %" PRIu32 " ms\n", d->settings.request_bytes,
         d->settings.repeats, d->host->settings.timer);
     fprintf(out,
         "session: verdict %d (%s), filled %" PRIu64 ", replies %" PRIu64 ", sent %" PRIu64 ", repeats %" PRIu32 "\n",
@@ -284,7 +269,7 @@ static int file_finished(dumping *d)
 
 static int check_room(const host *h, const dumping *d)
 {
-    if (d->settings.most + REPLY_REST <= h->line.longest)
+    if (d->settings.request_bytes + REPLY_REST <= h->line.longest)
         return 0;
     return complain(STATUS_INTERFACE, "%s takes messages of at most %" PRIu32 " bytes: -C is at most %" PRIu32,
         h->line.name, h->line.longest, h->line.longest - REPLY_REST);
@@ -295,7 +280,7 @@ static int serve(host *h, dumping *d)
     int status = host_run(h);
     words_bar_end();
     dump_words(stdout, &d->session, &d->settings);
-    int filed = status == 0 && d->session.verdict == 1 ? file_finished(d) : file_unfinished(d, status);
+    int filed = status == 0 && d->session.verdict == MOP_DUMP_FINISHED ? file_finished(d) : file_unfinished(d, status);
     if (status == 0)
         status = filed == 0 ? verdict_status(d->session.verdict) : filed;
     return status;
@@ -317,8 +302,8 @@ static int run(host *h, dumping *d)
 
 int main(int count, char **words)
 {
-    static host h = {.settings = {.timer = 2000, .wait = 600}, .calls = &calls};
-    static dumping d = {.settings = {.most = 1024, .repeats = 16}};
+    static host h = {.settings = {.timer = 2000, .wait = 600, .help = help}, .calls = &calls};
+    static dumping d = {.settings = {.request_bytes = 1024, .repeats = 16}};
     h.job = &d;
     d.host = &h;
     d.session = mop_dump_start();

@@ -12,11 +12,9 @@
 #define FILE_MOST 67108864 /* bytes read; the library refuses long before */
 #define SEGMENT_MOST 1488  /* code 0 with more is above the Ethernet limit */
 #define SEGMENT_REST 10    /* what code 0 has beside the data */
-#define CODE_REQUEST_PROGRAM 8
-#define PROGRAM_PLACE 3 /* of the program type in code 8 */
-#define OPERATING_SYSTEM 2
+#define PROGRAM_PLACE 3    /* of the program type in code 8 */
 
-enum { OPTION_MACHINE = OPTION_OWN, OPTION_ACCEPT };
+enum { OPTION_ACCEPT = OPTION_JOB };
 
 typedef struct loading {
     mop_load_settings settings;
@@ -37,8 +35,8 @@ static void before(void *job, line_frame *frame)
 {
     loading *l = job;
     char from[ADDRESS_TEXT];
-    mop_frame request = mop_read(frame->bytes, frame->length);
-    if (request.refusal != 0 || request.code != CODE_REQUEST_PROGRAM || request.program == OPERATING_SYSTEM)
+    mop_fields request = mop_read(frame->bytes, frame->length);
+    if (request.refusal != 0 || request.code != MOP_CODE_REQUEST_PROGRAM || request.program == MOP_PROGRAM_SYSTEM)
         return;
     address_text(frame->from, from);
     const char *asked = program_words(request.program);
@@ -47,7 +45,7 @@ static void before(void *job, line_frame *frame)
             printf("%s asks for a %s (type %d), which is not served; --accept-type %d would serve it.\n", from, asked,
                 request.program, request.program);
     } else {
-        frame->bytes[PROGRAM_PLACE] = OPERATING_SYSTEM;
+        frame->bytes[PROGRAM_PLACE] = MOP_PROGRAM_SYSTEM;
         if (!l->told)
             printf("%s asks for a %s (type %d): its request goes to the library as type 2 (--accept-type %d).\n", from,
                 asked, request.program, request.program);
@@ -61,7 +59,7 @@ static mop_written step(
 {
     loading *l = job;
     return mop_load_update(
-        &l->session, l->settings, timer, l->file.bytes, l->file.length, frame, frame_length, reply, reply_length);
+        l->settings, &l->session, timer, l->file.bytes, l->file.length, frame, frame_length, reply, reply_length);
 }
 
 static bool begins(const void *job, const line_frame *frame)
@@ -70,18 +68,14 @@ static bool begins(const void *job, const line_frame *frame)
     uint8_t reply[MESSAGE_MOST];
     mop_load trial = mop_load_start();
     mop_load_update(
-        &trial, l->settings, 0, l->file.bytes, l->file.length, frame->bytes, frame->length, reply, sizeof reply);
+        l->settings, &trial, 0, l->file.bytes, l->file.length, frame->bytes, frame->length, reply, sizeof reply);
     return trial.waiting == 0;
 }
 
 static host_stage stage(const void *job)
 {
     const mop_load *session = &((const loading *)job)->session;
-    if (session->waiting)
-        return HOST_WAITING;
-    if (session->verdict != 0)
-        return HOST_OVER;
-    return session->position == 0 ? HOST_FIRST : HOST_UNDER_WAY;
+    return host_stage_of(session->waiting, session->verdict, session->position);
 }
 
 static void show(void *job)
@@ -142,26 +136,16 @@ static int option(int c, const char *value, host *h, loading *l)
     switch (c) {
     case 'S':
         return option_small("-S", value, 1, SEGMENT_MOST, &l->settings.segment_size);
-    case 'R':
-        return option_small("-R", value, 0, 255, &l->settings.repeats);
-    case OPTION_MACHINE:
-        return host_machine(h, value);
     case OPTION_ACCEPT:
         return option_small("--accept-type", value, 0, 2, &l->accept);
-    case 'h':
-        help();
-        exit(STATUS_FINISHED);
-    case '?':
-        return complain(STATUS_USAGE, "see --help");
     default:
-        return common_option(c, value, &h->settings);
+        return host_option(h, c, value, &l->settings.repeats);
     }
 }
 
 static int options(int count, char **words, host *h, loading *l)
 {
-    static const struct option known[] = {LINE_OPTIONS, {"segment", required_argument, NULL, 'S'},
-        {"repeats", required_argument, NULL, 'R'}, {"machine", required_argument, NULL, OPTION_MACHINE},
+    static const struct option known[] = {HOST_OPTIONS, {"segment", required_argument, NULL, 'S'},
         {"accept-type", required_argument, NULL, OPTION_ACCEPT}, {NULL, 0, NULL, 0}};
     for (int c = 0; (c = getopt_long(count, words, "i:S:R:h", known, NULL)) != -1;) {
         int status = option(c, optarg, h, l);
@@ -217,8 +201,8 @@ static int run(host *h, loading *l)
 
 int main(int count, char **words)
 {
-    static host h = {.settings = {.timer = 2000, .wait = 600}, .calls = &calls};
-    static loading l = {.settings = {.segment_size = 512, .repeats = 4}, .accept = OPERATING_SYSTEM};
+    static host h = {.settings = {.timer = 2000, .wait = 600, .help = help}, .calls = &calls};
+    static loading l = {.settings = {.segment_size = 512, .repeats = 4}, .accept = MOP_PROGRAM_SYSTEM};
     h.job = &l;
     l.session = mop_load_start();
     words_program("mopload");

@@ -13,10 +13,8 @@
 #define MEMORY_MOST 16777216
 #define DUMP_MOST 1493 /* code 14 with more is above the Ethernet limit */
 #define DUMP_REST 5    /* what code 14 has beside the data */
-#define CODE_VOLUNTEER 3
-#define ASKS 8 /* requests to one host without an answer, before all are asked again */
+#define ASKS 8         /* requests to one host without an answer, before all are asked again */
 
-enum { IDLE, OFFERING, REQUESTING, LOADING, STARTED };
 enum { OPTION_MEMORY = OPTION_OWN, OPTION_OFFER, OPTION_FILL, OPTION_SAVE, OPTION_DEVICE, OPTION_PROCESSOR };
 
 typedef struct machine_end {
@@ -38,13 +36,15 @@ typedef struct machine_end {
 
 static bool asks(const machine_end *m)
 {
-    return m->machine.state == REQUESTING || m->machine.state == OFFERING;
+    return m->machine.state == MOP_MACHINE_REQUESTING || m->machine.state == MOP_MACHINE_OFFERING;
 }
 
 /* Takes over the state of a step and sends its frame. */
 static int carry(machine_end *m, mop_machine_step step, const uint8_t *reply)
 {
-    if (step.answer.refusal > 4)
+    if (mop_refused_frame(step.answer.refusal))
+        return 0;
+    if (step.answer.refusal != MOP_ACCEPTED)
         return complain(STATUS_OTHER, "the step is refused: %s", refusal_words(step.answer.refusal));
     m->machine = step.machine;
     if (step.answer.length == 0)
@@ -93,7 +93,7 @@ static int take(machine_end *m, const line_frame *frame)
     bool free_to_choose = memcmp(m->host, ASSISTANCE, ADDRESS_LENGTH) == 0;
     if (frame->multicast)
         return 0;
-    if (free_to_choose && asks(m) && mop_read(frame->bytes, frame->length).code == CODE_VOLUNTEER)
+    if (free_to_choose && asks(m) && mop_read(frame->bytes, frame->length).code == MOP_CODE_VOLUNTEER)
         return volunteer(m, frame);
     if (memcmp(frame->from, m->host, ADDRESS_LENGTH) != 0)
         return 0;
@@ -115,7 +115,7 @@ static int silence(machine_end *m)
 
 static bool over(const machine_end *m)
 {
-    return m->machine.state == (m->offer ? IDLE : STARTED);
+    return m->machine.state == (m->offer ? MOP_MACHINE_IDLE : MOP_MACHINE_STARTED);
 }
 
 static int run(machine_end *m)
@@ -124,19 +124,11 @@ static int run(machine_end *m)
     m->limit = clock_now() + (int64_t)m->common.wait * 1000;
     int status = start(m);
     while (status == 0 && !over(m)) {
-        switch (line_receive(&m->line, &frame, m->due < m->limit ? m->due : m->limit)) {
-        case LINE_FRAME:
+        line_event event = line_receive(&m->line, &frame, m->due < m->limit ? m->due : m->limit);
+        if (event == LINE_FRAME)
             status = take(m, &frame);
-            break;
-        case LINE_QUIET:
-            status = silence(m);
-            break;
-        case LINE_SIGNAL:
-            status = complain(STATUS_INTERRUPTED, "interrupted by a signal");
-            break;
-        default:
-            status = STATUS_INTERFACE;
-        }
+        else
+            status = event == LINE_QUIET ? silence(m) : line_over(event);
     }
     return status;
 }
@@ -205,16 +197,11 @@ static int option(int c, const char *value, machine_end *m)
         m->save = value;
         return 0;
     case 'D':
-        return option_small("-D", value, 1, DUMP_MOST, &m->settings.dump_most);
+        return option_small("-D", value, 1, DUMP_MOST, &m->settings.reply_bytes);
     case OPTION_DEVICE:
         return small_byte("--device", value, &m->settings.device);
     case OPTION_PROCESSOR:
         return small_byte("--processor", value, &m->settings.processor);
-    case 'h':
-        help();
-        exit(STATUS_FINISHED);
-    case '?':
-        return complain(STATUS_USAGE, "see --help");
     default:
         return common_option(c, value, &m->common);
     }
@@ -259,11 +246,11 @@ static int on_the_line(machine_end *m)
     int status = line_open(&m->line, &m->common.line);
     if (status != 0)
         return status;
-    if (m->settings.dump_most + DUMP_REST > m->line.longest)
-        m->settings.dump_most = m->line.longest - DUMP_REST;
+    if (m->settings.reply_bytes + DUMP_REST > m->line.longest)
+        m->settings.reply_bytes = m->line.longest - DUMP_REST;
     status = run(m);
     line_close(&m->line);
-    if (m->machine.state == STARTED)
+    if (m->machine.state == MOP_MACHINE_STARTED)
         printf("Started at 0x%08" PRIX32 ".\n", m->machine.transfer);
     else
         printf("The machine is %s.\n", state_words(m->machine.state));
@@ -273,7 +260,7 @@ static int on_the_line(machine_end *m)
 
 int main(int count, char **words)
 {
-    static machine_end m = {.common = {.timer = 2000, .wait = 600}, .settings = {.dump_most = 1024}};
+    static machine_end m = {.common = {.timer = 2000, .wait = 600, .help = help}, .settings = {.reply_bytes = 1024}};
     words_program("mopmachine");
     int status = options(count, words, &m);
     if (status == 0)

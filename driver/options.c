@@ -87,8 +87,11 @@ int common_option(int option, const char *value, common_settings *settings)
     case OPTION_TRACE:
         settings->line.trace = value;
         return 0;
+    case 'h':
+        settings->help();
+        exit(STATUS_FINISHED);
     default:
-        return -1;
+        return complain(STATUS_USAGE, "see --help");
     }
 }
 

@@ -21,11 +21,12 @@ enum { OPTION_TIMER = 256, OPTION_WAIT, OPTION_DROP, OPTION_DOUBLE, OPTION_TRACE
 
 typedef struct common_settings {
     line_settings line;
-    uint32_t timer; /* milliseconds */
-    uint32_t wait;  /* seconds */
+    uint32_t timer;     /* milliseconds */
+    uint32_t wait;      /* seconds */
+    void (*help)(void); /* prints the program's manual */
 } common_settings;
 
-/* Takes an option that all have: 0, an exit status, or -1 for another's. */
+/* Takes an option that all have, or that none has: 0 or an exit status. */
 int common_option(int option, const char *value, common_settings *settings);
 
 /* What they are, for --help. */

@@ -124,26 +124,26 @@ void load_words(FILE *out, const mop_load *session, const mop_image *image)
 {
     const uint64_t c = session->position, n = image->segments;
     switch (session->verdict) {
-    case 1:
+    case MOP_LOAD_FINISHED:
         fprintf(out,
             "Finished: the machine confirmed all %" PRIu64 " segments. Its memory holds the whole image, and it was "
             "started at 0x%08" PRIX32 ".\n",
             n, image->transfer);
         break;
-    case 2:
+    case MOP_LOAD_REJECTED:
         fprintf(out,
             "Rejected: the machine answered segment %" PRIu64 " of %" PRIu64 " with an error. Its memory holds the "
             "%" PRIu64 " segments before, and it was not started. (A boot ROM that calls a repeated segment an error "
             "has taken that segment too: docs/FIELD-NOTES.md.)\n",
             c + 1, n, c);
         break;
-    case 3:
+    case MOP_LOAD_GIVEN_UP:
         fprintf(out,
             "Given up: the machine confirmed %" PRIu64 " of %" PRIu64 " segments and then fell silent. Its memory "
             "holds those and perhaps the next one, and it was not started.\n",
             c, n);
         break;
-    case 4:
+    case MOP_LOAD_UNCONFIRMED:
         fprintf(out,
             "Unconfirmed: %" PRIu64 " of %" PRIu64 " segments are confirmed, all but the last. If the last arrived "
             "the machine's memory holds the whole image and it was started at 0x%08" PRIX32 "; if not, it holds the "
@@ -158,13 +158,13 @@ void load_words(FILE *out, const mop_load *session, const mop_image *image)
 void dump_words(FILE *out, const mop_dump *session, const mop_dump_settings *settings)
 {
     switch (session->verdict) {
-    case 1:
+    case MOP_DUMP_FINISHED:
         fprintf(out,
             "Finished: the machine sent all %" PRIu64 " bytes of its memory from 0x%08" PRIX32 " on; those beyond the "
             "end of its memory are 0. Its memory is as it was.\n",
             settings->length, settings->address);
         break;
-    case 3:
+    case MOP_DUMP_GIVEN_UP:
         fprintf(out,
             "Given up: the machine sent %" PRIu64 " of %" PRIu64 " bytes and then fell silent. Its memory is as it "
             "was.\n",

@@ -19,8 +19,8 @@
  *     size_t line_wait(uint8_t *frame, size_t room);
  *
  * The rest is these two. Each ends with a verdict, or with a refusal below 0
- * if a call was wrong; a frame that is refused is dropped, and the wait goes
- * on.
+ * if a call was wrong; a frame that can't be read is dropped, and the wait
+ * goes on.
  *
  *     // Loads an image file into the machine.
  *     int load(const uint8_t *file, size_t file_length)
@@ -31,10 +31,12 @@
  *
  *         while (session.verdict == MOP_LOAD_RUNNING) {
  *             size_t length = line_wait(frame, sizeof frame);
- *             mop_written answer = mop_load_update(&session, settings,
+ *             mop_written answer = mop_load_update(settings, &session,
  *                 length == 0, file, file_length, frame, length,
  *                 reply, sizeof reply);
- *             if (answer.refusal >= MOP_REFUSED_FILE)
+ *             if (mop_refused_frame(answer.refusal))
+ *                 continue;
+ *             if (answer.refusal != MOP_ACCEPTED)
  *                 return -answer.refusal;
  *             if (answer.length > 0)
  *                 line_send(reply, answer.length);
@@ -46,16 +48,18 @@
  *     int dump(uint32_t address, uint8_t *buffer, size_t buffer_length)
  *     {
  *         mop_dump_settings settings = {.length = buffer_length,
- *             .address = address, .most = 1024, .repeats = 5};
+ *             .address = address, .request_bytes = 1024, .repeats = 5};
  *         mop_dump session = mop_dump_start();
  *         uint8_t frame[MOP_FRAME_MOST], reply[MOP_FRAME_MOST];
  *
  *         while (session.verdict == MOP_DUMP_RUNNING) {
  *             size_t length = line_wait(frame, sizeof frame);
- *             mop_written answer = mop_dump_update(&session, settings,
+ *             mop_written answer = mop_dump_update(settings, &session,
  *                 length == 0, frame, length, buffer, buffer_length,
  *                 reply, sizeof reply);
- *             if (answer.refusal >= MOP_REFUSED_FILE)
+ *             if (mop_refused_frame(answer.refusal))
+ *                 continue;
+ *             if (answer.refusal != MOP_ACCEPTED)
  *                 return -answer.refusal;
  *             if (answer.length > 0)
  *                 line_send(reply, answer.length);
@@ -81,9 +85,9 @@
  * every lent byte is as it was. Where several refusals apply, the first in the
  * order given at the call is answered.
  *
- * Order. In every step: settings, record, lent bytes that stay the same over
- * a session, frame, memory or dump buffer, reply buffer. The two calls that
- * update a record in its place have it first, before the settings.
+ * Order. In every step: settings, record, whether the timer has run out (where
+ * one call takes both), lent bytes that stay the same over a session, frame,
+ * memory or dump buffer, reply buffer.
  *
  * Records. A step takes a session's record by value and answers the next one,
  * or it updates the record where it stands. Hand it to the next step, and
@@ -130,6 +134,14 @@ enum mop_refusal {
     MOP_REFUSED_RANGE = 10     /* a setting, length or index is outside its
                                   range, or the record is bad */
 };
+
+/* Whether a step's refusal is the frame's own (1 to 4): 1 or 0. Such a frame
+ * comes from the line and not from the caller: drop it, and wait on. With any
+ * other refusal the call itself is wrong, and it would be refused again. */
+static inline int mop_refused_frame(uint8_t refusal)
+{
+    return refusal >= MOP_REFUSED_SHORT && refusal <= MOP_REFUSED_FIELD;
+}
 
 /* The most of each, all included. */
 enum mop_limit {
@@ -248,7 +260,7 @@ enum mop_loop_verdict {
  *   24 loop data                    receipt, data
  *   26 looped data                  receipt, data
  */
-typedef struct mop_frame {
+typedef struct mop_fields {
     size_t data_at;        /* where data, info or entries begin in the frame */
     size_t data_length;    /* their bytes; entries are without the end mark */
     size_t id_at;          /* where the software id begins in the frame */
@@ -268,7 +280,7 @@ typedef struct mop_frame {
     uint8_t form;          /* MOP_FORM_.., or 1 to 16, the id's length */
     uint8_t processor;     /* processor type */
     uint8_t compatibility; /* compatibility code */
-} mop_frame;
+} mop_fields;
 
 /* Reads a frame.
  *   In     the frame's bytes; they are not changed.
@@ -279,7 +291,7 @@ typedef struct mop_frame {
  *          bytes in turn, 4 for one outside its list and 1 where the frame
  *          ends first; 2 for what is left over in a code 20.
  */
-mop_frame mop_read(const uint8_t *frame, size_t frame_length);
+mop_fields mop_read(const uint8_t *frame, size_t frame_length);
 
 /* ---- Writing a frame ------------------------------------------------- */
 
@@ -397,9 +409,9 @@ mop_segment mop_image_segment(const uint8_t *file, size_t file_length,
 
 /* The machine's settings. */
 typedef struct mop_machine_settings {
-    uint32_t dump_most; /* D, the most bytes of a dump reply, 1 to 1,495 */
-    uint8_t device;     /* device type in its own frames */
-    uint8_t processor;  /* processor type in its own frames */
+    uint32_t reply_bytes; /* D, the most bytes of a dump reply, 1 to 1,495 */
+    uint8_t device;       /* device type in its own frames */
+    uint8_t processor;    /* processor type in its own frames */
 } mop_machine_settings;
 
 /* The machine's record. A number that the state does not use is not looked at;
@@ -422,7 +434,7 @@ typedef struct mop_machine_step {
  *          of at least 1,500 bytes.
  *   Out    the next record, and the length of the frame to send, 0 for none;
  *          that frame at the start of reply, the bytes behind it as they were.
- *   Refuses, in this order: 10 for dump_most, a memory that is too long or a
+ *   Refuses, in this order: 10 for reply_bytes, a memory that is too long or a
  *          state above 4; 9 for the reply buffer; on a frame, 1 to 4 as
  *          mop_read does. Then the record is answered as it came, and memory
  *          and reply stay as they were.
@@ -523,7 +535,7 @@ mop_load_step mop_load_timer(mop_load_settings settings, mop_load session,
  * timer 0 a frame has come, with anything else the timer has run out, and then
  * frame is not looked at (null and 0 will do). session points to a record that
  * overlaps nothing else that is lent. If refused, it stays as it was. */
-mop_written mop_load_update(mop_load *session, mop_load_settings settings,
+mop_written mop_load_update(mop_load_settings settings, mop_load *session,
     uint8_t timer, const uint8_t *file, size_t file_length,
     const uint8_t *frame, size_t frame_length, uint8_t *reply,
     size_t reply_length);
@@ -532,10 +544,12 @@ mop_written mop_load_update(mop_load *session, mop_load_settings settings,
 
 /* A dump's settings. */
 typedef struct mop_dump_settings {
-    uint64_t length;  /* L, the bytes to dump, at least 1 */
-    uint32_t address; /* A, where they begin; A + L is at most 4,294,967,296 */
-    uint32_t most;    /* C, the most bytes asked for at a time, 1 to 1,495 */
-    uint32_t repeats; /* R, the repeats allowed per frame, 0 to 255 */
+    uint64_t length;        /* L, the bytes to dump, at least 1 */
+    uint32_t address;       /* A, where they begin; A + L is at most
+                               4,294,967,296 */
+    uint32_t request_bytes; /* C, the most bytes asked for at a time, 1 to
+                               1,495 */
+    uint32_t repeats;       /* R, the repeats allowed per frame, 0 to 255 */
 } mop_dump_settings;
 
 /* A dump's record. */
@@ -596,7 +610,7 @@ mop_dump_step mop_dump_timer(mop_dump_settings settings, mop_dump session,
  * timer 0 a frame has come, with anything else the timer has run out, and then
  * frame is not looked at (null and 0 will do). session points to a record that
  * overlaps nothing else that is lent. If refused, it stays as it was. */
-mop_written mop_dump_update(mop_dump *session, mop_dump_settings settings,
+mop_written mop_dump_update(mop_dump_settings settings, mop_dump *session,
     uint8_t timer, const uint8_t *frame, size_t frame_length, uint8_t *buffer,
     size_t buffer_length, uint8_t *reply, size_t reply_length);
 

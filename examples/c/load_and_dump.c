@@ -18,7 +18,7 @@ typedef struct line {
 static line to_host = {.sender = "machine"}, to_machine = {.sender = "host"};
 static uint8_t reply[MOP_FRAME_MOST]; /* where every step puts its frame */
 
-static void print_frame(mop_frame f)
+static void print_frame(mop_fields f)
 {
     const unsigned address = f.address, bytes = (unsigned)f.data_length;
     if (f.code == MOP_CODE_REQUEST_PROGRAM)
@@ -39,10 +39,13 @@ static void print_frame(mop_frame f)
         printf("says that the dump is complete");
 }
 
-/* Sends the frame that a step has left in reply, if any. */
+/* Sends the frame that a step has left in reply, if any. A frame that a step
+ * can't read is dropped; any other refusal is a fault of this program. */
 static void line_send(line *way, mop_written answer)
 {
     static int sent;
+    if (mop_refused_frame(answer.refusal))
+        return;
     if (answer.refusal != MOP_ACCEPTED) {
         printf("%s: refused with %d\n", way->sender, answer.refusal);
         exit(1);
@@ -68,7 +71,7 @@ static size_t line_wait(line *way, uint8_t frame[MOP_FRAME_MOST])
 
 /* ---- The machine. */
 
-static const mop_machine_settings ours = {.dump_most = 512};
+static const mop_machine_settings ours = {.reply_bytes = 512};
 static mop_machine machine;
 static uint8_t memory[256];
 
@@ -97,18 +100,18 @@ static void load_step(mop_load *session, const uint8_t *file, size_t size)
     const mop_load_settings settings = {.segment_size = 64, .repeats = 3};
     uint8_t frame[MOP_FRAME_MOST];
     const size_t length = line_wait(&to_host, frame);
-    line_send(&to_machine, mop_load_update(session, settings, length == 0, file,
+    line_send(&to_machine, mop_load_update(settings, session, length == 0, file,
                                size, frame, length, reply, sizeof reply));
 }
 
 static void dump_step(mop_dump *session, uint8_t *buffer, size_t size)
 {
     const mop_dump_settings settings = {
-        .length = size, .address = 0, .most = 100, .repeats = 3};
+        .length = size, .address = 0, .request_bytes = 100, .repeats = 3};
     uint8_t frame[MOP_FRAME_MOST];
     const size_t length = line_wait(&to_host, frame);
     line_send(
-        &to_machine, mop_dump_update(session, settings, length == 0, frame,
+        &to_machine, mop_dump_update(settings, session, length == 0, frame,
                          length, buffer, size, reply, sizeof reply));
 }
 

@@ -1,4 +1,5 @@
 #include "check.h"
+#include "mop.h"
 
 #include <signal.h>
 #include <stdio.h>
@@ -78,6 +79,8 @@ void calling(enum call call)
 void called(unsigned refusal)
 {
     demand(refusal <= 10, "a refusal above 10");
+    demand(mop_refused_frame((uint8_t)refusal) == ((FRAME >> refusal & 1) != 0),
+        "mop_refused_frame is wrong");
     seen[current][refusal]++;
 }
 

@@ -29,7 +29,7 @@ static bool is_timer(const input *in)
 static bool good_settings(const mop_dump_settings *s)
 {
     const uint64_t addresses = UINT64_C(1) << 32;
-    return s->most >= 1 && s->most <= MOP_DUMP_DATA_MOST &&
+    return s->request_bytes >= 1 && s->request_bytes <= MOP_DUMP_DATA_MOST &&
            s->repeats <= MOP_REPEATS_MOST && s->length >= 1 &&
            s->length <= addresses && s->address <= addresses - s->length;
 }
@@ -75,7 +75,7 @@ static mop_dump_step update(const input *in)
     const uint8_t *from =
         in->timer == 0 ? lent_in(&frame) : lent_beyond(&frame);
     const mop_written answer =
-        mop_dump_update((mop_dump *)(void *)lent_bytes(&record), in->settings,
+        mop_dump_update(in->settings, (mop_dump *)(void *)lent_bytes(&record),
             in->timer, from, in->frame_length, lent_out(&buffer),
             in->buffer_length, lent_out(&reply), in->room);
     memcpy(&step.session, lent_bytes(&record), sizeof step.session);
@@ -114,7 +114,7 @@ static void check_buffer(const input *in, mop_dump after)
         demand(lent_same_from(&buffer, 0), "the buffer changed");
         return;
     }
-    const mop_frame f = mop_read(in->frame, in->frame_length);
+    const mop_fields f = mop_read(in->frame, in->frame_length);
     demand(after.filled == before + f.data_length, "another number filled");
     demand(lent_same_from(&buffer, (size_t)after.filled),
         "the buffer behind what came changed");
@@ -127,17 +127,14 @@ static void check_buffer(const input *in, mop_dump after)
 
 static void check_answer(const input *in, unsigned refusal, mop_dump_step step)
 {
-    demand(step.answer.refusal == refusal, "not the header's refusal");
-    demand(step.answer.length <= MOP_FRAME_MOST, "longer than a frame");
-    demand(lent_same_from(&reply, step.answer.length),
-        "bytes behind the frame, or of a refused call, changed");
+    check_written(step.answer, refusal, &reply);
     if (refusal != MOP_ACCEPTED || in->session.verdict != MOP_DUMP_RUNNING) {
         demand(step.answer.length == 0, "a frame that should not go out");
         demand(same(step.session, in->session), "the record changed");
     }
     check_buffer(in, step.session);
     if (step.answer.length > 0) {
-        const mop_frame f = mop_read(lent_bytes(&reply), step.answer.length);
+        const mop_fields f = mop_read(lent_bytes(&reply), step.answer.length);
         demand(
             f.refusal == MOP_ACCEPTED && (f.code == MOP_CODE_REQUEST_DUMP ||
                                              f.code == MOP_CODE_DUMP_COMPLETE),
@@ -190,7 +187,7 @@ static void any_settings(input *in)
     mop_dump_settings *s = &in->settings;
     random_bytes((uint8_t *)s, sizeof *s);
     s->length = once_in(16) ? hostile() : in->buffer_length;
-    s->most =
+    s->request_bytes =
         (uint32_t)(once_in(16) ? hostile() : 1 + below(once_in(2) ? 8 : 1495));
     s->repeats = (uint32_t)(once_in(16) ? hostile() : below(256));
     s->address = (uint32_t)(once_in(4) ? hostile() : below(100000));
@@ -239,8 +236,9 @@ static void any_dump_frame(input *in)
         return;
     put32(
         in->frame + 1, in->settings.address + in->session.filled + once_in(8));
-    if (in->settings.most < 1495 && once_in(2))
-        in->frame_length = 5 + in->settings.most - once_in(4) + once_in(4);
+    if (in->settings.request_bytes < 1495 && once_in(2))
+        in->frame_length =
+            5 + in->settings.request_bytes - once_in(4) + once_in(4);
 }
 
 static void check_any(input *in)

@@ -69,10 +69,9 @@ static mop_load_step update(const input *in)
     mop_load_step step;
     const uint8_t *from =
         in->timer == 0 ? lent_in(&frame) : lent_beyond(&frame);
-    const mop_written answer =
-        mop_load_update((mop_load *)(void *)lent_bytes(&record), in->settings,
-            in->timer, lent_in(&file), in->file_length, from, in->frame_length,
-            lent_out(&reply), in->room);
+    const mop_written answer = mop_load_update(in->settings,
+        (mop_load *)(void *)lent_bytes(&record), in->timer, lent_in(&file),
+        in->file_length, from, in->frame_length, lent_out(&reply), in->room);
     memcpy(&step.session, lent_bytes(&record), sizeof step.session);
     step.answer = answer;
     demand(lent_same_from(&record, sizeof step.session),
@@ -102,16 +101,13 @@ static bool same(mop_load a, mop_load b)
 
 static void check_answer(const input *in, unsigned refusal, mop_load_step step)
 {
-    demand(step.answer.refusal == refusal, "not the header's refusal");
-    demand(step.answer.length <= MOP_FRAME_MOST, "longer than a frame");
-    demand(lent_same_from(&reply, step.answer.length),
-        "bytes behind the frame, or of a refused call, changed");
+    check_written(step.answer, refusal, &reply);
     if (refusal != MOP_ACCEPTED || in->session.verdict != MOP_LOAD_RUNNING) {
         demand(step.answer.length == 0, "a frame that should not go out");
         demand(same(step.session, in->session), "the record changed");
     }
     if (step.answer.length > 0) {
-        const mop_frame f = mop_read(lent_bytes(&reply), step.answer.length);
+        const mop_fields f = mop_read(lent_bytes(&reply), step.answer.length);
         demand(
             f.refusal == MOP_ACCEPTED &&
                 (f.code == MOP_CODE_LOAD || f.code == MOP_CODE_LOAD_TRANSFER),

@@ -61,16 +61,13 @@ static bool same(mop_loop a, mop_loop b)
 
 static void check_answer(const input *in, unsigned refusal, mop_loop_step step)
 {
-    demand(step.answer.refusal == refusal, "not the header's refusal");
-    demand(step.answer.length <= MOP_FRAME_MOST, "longer than a frame");
-    demand(lent_same_from(&reply, step.answer.length),
-        "bytes behind the frame, or of a refused call, changed");
+    check_written(step.answer, refusal, &reply);
     if (refusal != MOP_ACCEPTED || in->session.verdict != MOP_LOOP_OPEN) {
         demand(step.answer.length == 0, "a frame that should not go out");
         demand(same(step.session, in->session), "the record changed");
     }
     if (step.answer.length > 0) {
-        const mop_frame f = mop_read(lent_bytes(&reply), step.answer.length);
+        const mop_fields f = mop_read(lent_bytes(&reply), step.answer.length);
         demand(f.code == MOP_CODE_LOOP && f.receipt == in->settings.receipt &&
                    f.data_length == in->data_length,
             "another frame");

@@ -9,12 +9,6 @@
 
 static lent frame, memory, reply;
 
-size_t any_room(void)
-{
-    static const size_t rooms[] = {0, 1, 1498, 1499, 1501, BEYOND};
-    return once_in(3) ? rooms[below(sizeof rooms / sizeof rooms[0])] : 1500;
-}
-
 /* A call: what goes in, but for the buffers. */
 typedef struct input {
     enum call call;
@@ -30,8 +24,8 @@ typedef struct input {
 /* The header's refusal, in its order. */
 static unsigned wanted(const input *in)
 {
-    const uint32_t most = in->settings.dump_most;
-    if (most < 1 || most > MOP_DUMP_DATA_MOST)
+    const uint32_t d = in->settings.reply_bytes;
+    if (d < 1 || d > MOP_DUMP_DATA_MOST)
         return MOP_REFUSED_RANGE;
     if (in->memory_length > MOP_MEMORY_MOST)
         return MOP_REFUSED_RANGE;
@@ -71,13 +65,9 @@ static bool same(mop_machine a, mop_machine b)
 static void check_answer(
     const input *in, unsigned refusal, mop_machine_step step)
 {
-    demand(step.answer.refusal == refusal, "not the header's refusal");
-    demand(step.answer.length <= MOP_FRAME_MOST, "longer than a frame");
-    demand(lent_same_from(&reply, step.answer.length),
-        "bytes behind the reply, or of a refused call, changed");
+    check_written(step.answer, refusal, &reply);
     demand(lent_same_from(&memory, in->memory_length), "a red zone of memory");
     if (refusal != MOP_ACCEPTED) {
-        demand(step.answer.length == 0, "a refusal with a length");
         demand(same(step.machine, in->machine), "a refusal changed the record");
         demand(lent_same_from(&memory, 0), "a refusal changed memory");
         return;
@@ -116,7 +106,7 @@ static void any_numbers(input *in)
 {
     random_bytes((uint8_t *)&in->settings, sizeof in->settings);
     random_bytes((uint8_t *)&in->machine, sizeof in->machine);
-    in->settings.dump_most =
+    in->settings.reply_bytes =
         (uint32_t)(once_in(8) ? hostile() : 1 + below(MOP_DUMP_DATA_MOST));
     in->machine.state = (uint8_t)(once_in(16) ? hostile() : below(5));
     in->room = any_room();

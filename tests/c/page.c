@@ -1,6 +1,6 @@
 /* The code on the first page of mop.h, as it stands there (the Makefile cuts it
  * out into page.inc), run against a machine end over a line that now and then
- * loses a frame. */
+ * loses a frame, or hands over one that can't be read. */
 #include <stdio.h>
 #include <string.h>
 
@@ -8,7 +8,7 @@
 
 #include "page.inc"
 
-static const mop_machine_settings ours = {.dump_most = 100};
+static const mop_machine_settings ours = {.reply_bytes = 100};
 static uint8_t memory[5000];
 static mop_machine machine;
 static uint8_t coming[MOP_FRAME_MOST]; /* the frame on its way to the host */
@@ -29,7 +29,11 @@ void line_send(const uint8_t *frame, size_t length)
 size_t line_wait(uint8_t *frame, size_t room)
 {
     static int waits;
-    const size_t length = ++waits % 4 == 0 ? 0 : coming_length;
+    if (++waits % 5 == 0) {
+        frame[0] = 255;
+        return 1;
+    }
+    const size_t length = waits % 4 == 0 ? 0 : coming_length;
     coming_length = 0;
     if (length > 0 && length <= room) {
         memcpy(frame, coming, length);

@@ -8,10 +8,10 @@
 
 static lent frame, out;
 
-static mop_frame read_frame(const uint8_t *bytes, size_t length)
+static mop_fields read_frame(const uint8_t *bytes, size_t length)
 {
     calling(READ);
-    const mop_frame f = mop_read(bytes, length);
+    const mop_fields f = mop_read(bytes, length);
     called(f.refusal);
     return f;
 }
@@ -45,7 +45,7 @@ static int program_refusal(const uint8_t *bytes, size_t length)
 }
 
 /* Every field but the refusal is 0. */
-static bool is_blank(const mop_frame *f)
+static bool is_blank(const mop_fields *f)
 {
     return f->data_at == 0 && f->data_length == 0 && f->id_at == 0 &&
            f->id_length == 0 && f->address == 0 && f->transfer == 0 &&
@@ -56,7 +56,7 @@ static bool is_blank(const mop_frame *f)
 }
 
 /* An accepted frame is what its writer writes of its fields. */
-static void check_back(const mop_frame *f, const uint8_t *bytes, size_t length)
+static void check_back(const mop_fields *f, const uint8_t *bytes, size_t length)
 {
     static const uint8_t clear[MOP_FRAME_MOST];
     demand(f->data_at <= length && f->data_length <= length - f->data_at,
@@ -74,12 +74,12 @@ static void check_back(const mop_frame *f, const uint8_t *bytes, size_t length)
 
 static void check_read(const uint8_t *bytes, size_t length)
 {
-    mop_frame sides[2];
+    mop_fields sides[2];
     for (int side = BEHIND; side <= BEFORE; side++) {
         lent_place(&frame, (enum side)side, bytes, length);
         sides[side] = read_frame(lent_in(&frame), length);
     }
-    const mop_frame *f = &sides[0];
+    const mop_fields *f = &sides[0];
     int wanted = early_refusal(bytes, length);
     if (wanted < 0 && bytes[0] == 8)
         wanted = program_refusal(bytes, length);

@@ -2,6 +2,7 @@
 #ifndef TESTS_H
 #define TESTS_H
 
+#include "lent.h"
 #include "mop.h"
 
 void test_reading(void);
@@ -14,10 +15,15 @@ void test_loop(void);
 
 /* Calls the writer of the code in f with its numbers and these bytes of data;
  * the name is code 8's id. */
-mop_written write_frame(const mop_frame *f, const uint8_t *bytes, size_t length,
-    const uint8_t *name, size_t name_length, uint8_t *to, size_t room);
+mop_written write_frame(const mop_fields *f, const uint8_t *bytes,
+    size_t length, const uint8_t *name, size_t name_length, uint8_t *to,
+    size_t room);
 
 /* Lengths of a reply buffer, on both sides of 1,500. */
 size_t any_room(void);
+
+/* A step's answer: this refusal, a frame's length or, if refused, 0, and all
+ * else in the reply buffer as it was. */
+void check_written(mop_written answer, unsigned refusal, const lent *reply);
 
 #endif

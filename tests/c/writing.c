@@ -27,7 +27,7 @@ static enum call writer(uint8_t code)
 }
 
 /* The codes without an id. */
-static mop_written write_plain(const mop_frame *f, const uint8_t *bytes,
+static mop_written write_plain(const mop_fields *f, const uint8_t *bytes,
     size_t length, uint8_t *to, size_t room)
 {
     switch (f->code) {
@@ -59,8 +59,9 @@ static mop_written write_plain(const mop_frame *f, const uint8_t *bytes,
     }
 }
 
-mop_written write_frame(const mop_frame *f, const uint8_t *bytes, size_t length,
-    const uint8_t *name, size_t name_length, uint8_t *to, size_t room)
+mop_written write_frame(const mop_fields *f, const uint8_t *bytes,
+    size_t length, const uint8_t *name, size_t name_length, uint8_t *to,
+    size_t room)
 {
     calling(writer(f->code));
     const mop_written answer =
@@ -74,7 +75,7 @@ mop_written write_frame(const mop_frame *f, const uint8_t *bytes, size_t length,
 }
 
 /* The header's refusal, in its order. */
-static unsigned wanted(const mop_frame *f, const uint8_t *bytes, size_t room)
+static unsigned wanted(const mop_fields *f, const uint8_t *bytes, size_t room)
 {
     if (f->code == MOP_CODE_REQUEST_PROGRAM &&
         (f->program > 2 || !is_form(f->form) ||
@@ -89,10 +90,10 @@ static unsigned wanted(const mop_frame *f, const uint8_t *bytes, size_t room)
 }
 
 /* What was written reads as what was asked for. */
-static void check_read_back(const mop_frame *f, size_t length)
+static void check_read_back(const mop_fields *f, size_t length)
 {
     const uint8_t *bytes = lent_bytes(&out);
-    const mop_frame r = mop_read(bytes, length);
+    const mop_fields r = mop_read(bytes, length);
     demand(r.refusal == MOP_ACCEPTED, "a frame that can't be read");
     demand(r.code == f->code && r.number == f->number && r.error == f->error &&
                r.device == f->device && r.format == f->format &&
@@ -112,7 +113,7 @@ static void check_read_back(const mop_frame *f, size_t length)
 
 /* The fields of f, with the data and the id that it says the lengths of. */
 static void check_write(
-    const mop_frame *f, const uint8_t *bytes, const uint8_t *name, size_t room)
+    const mop_fields *f, const uint8_t *bytes, const uint8_t *name, size_t room)
 {
     uint8_t clear[BEYOND];
     random_bytes(clear, room);
@@ -135,12 +136,12 @@ static void check_write(
 }
 
 /* Numbers for the fields that a code has. */
-static mop_frame any_fields(uint8_t code)
+static mop_fields any_fields(uint8_t code)
 {
     const bool load = code == 0 || code == 2, service = code == 12;
     const bool program = code == 8, from = code == 4 || code == 14;
     const bool loop = code == 24 || code == 26;
-    mop_frame f = {.code = code};
+    mop_fields f = {.code = code};
     if (load || code == 10 || code == 20)
         f.number = (uint8_t)hostile();
     if (load || from)
@@ -166,7 +167,7 @@ static mop_frame any_fields(uint8_t code)
 static void check_rooms(uint8_t code, size_t length)
 {
     uint8_t bytes[2 * BEYOND], name[40];
-    mop_frame f = any_fields(code);
+    mop_fields f = any_fields(code);
     random_bytes(bytes, length);
     random_bytes(name, sizeof name);
     f.data_length = length;

@@ -6,8 +6,8 @@
 #define WRAP(name) __wrap_##name
 #define REAL(name) __real_##name
 
-mop_frame REAL(mop_read)(const uint8_t *, size_t);
-mop_frame WRAP(mop_read)(const uint8_t *, size_t);
+mop_fields REAL(mop_read)(const uint8_t *, size_t);
+mop_fields WRAP(mop_read)(const uint8_t *, size_t);
 mop_written REAL(mop_write_loop)(
     uint16_t, const uint8_t *, size_t, uint8_t *, size_t);
 mop_written WRAP(mop_write_loop)(
@@ -27,31 +27,31 @@ mop_dump_step REAL(mop_dump_frame)(mop_dump_settings, mop_dump, const uint8_t *,
 mop_dump_step WRAP(mop_dump_frame)(mop_dump_settings, mop_dump, const uint8_t *,
     size_t, uint8_t *, size_t, uint8_t *, size_t);
 
-mop_written REAL(mop_load_update)(mop_load *, mop_load_settings, uint8_t,
+mop_written REAL(mop_load_update)(mop_load_settings, mop_load *, uint8_t,
     const uint8_t *, size_t, const uint8_t *, size_t, uint8_t *, size_t);
-mop_written WRAP(mop_load_update)(mop_load *, mop_load_settings, uint8_t,
+mop_written WRAP(mop_load_update)(mop_load_settings, mop_load *, uint8_t,
     const uint8_t *, size_t, const uint8_t *, size_t, uint8_t *, size_t);
-mop_written REAL(mop_dump_update)(mop_dump *, mop_dump_settings, uint8_t,
+mop_written REAL(mop_dump_update)(mop_dump_settings, mop_dump *, uint8_t,
     const uint8_t *, size_t, uint8_t *, size_t, uint8_t *, size_t);
-mop_written WRAP(mop_dump_update)(mop_dump *, mop_dump_settings, uint8_t,
+mop_written WRAP(mop_dump_update)(mop_dump_settings, mop_dump *, uint8_t,
     const uint8_t *, size_t, uint8_t *, size_t, uint8_t *, size_t);
 
 #if WRONG == 1 /* looks at the byte behind the frame */
-mop_frame WRAP(mop_read)(const uint8_t *frame, size_t length)
+mop_fields WRAP(mop_read)(const uint8_t *frame, size_t length)
 {
     (void)*(volatile const uint8_t *)(frame + length);
     return REAL(mop_read)(frame, length);
 }
 #elif WRONG == 2  /* looks at the byte before the frame */
-mop_frame WRAP(mop_read)(const uint8_t *frame, size_t length)
+mop_fields WRAP(mop_read)(const uint8_t *frame, size_t length)
 {
     (void)*(volatile const uint8_t *)(frame - 1);
     return REAL(mop_read)(frame, length);
 }
 #elif WRONG == 3  /* gives a refused frame's code */
-mop_frame WRAP(mop_read)(const uint8_t *frame, size_t length)
+mop_fields WRAP(mop_read)(const uint8_t *frame, size_t length)
 {
-    mop_frame f = REAL(mop_read)(frame, length);
+    mop_fields f = REAL(mop_read)(frame, length);
     f.code = length > 0 ? frame[0] : 0;
     return f;
 }
@@ -142,31 +142,31 @@ mop_dump_step WRAP(mop_dump_frame)(mop_dump_settings settings, mop_dump session,
     return step;
 }
 #elif WRONG == 13 /* counts a frame that it refuses */
-mop_written WRAP(mop_load_update)(mop_load *session, mop_load_settings settings,
+mop_written WRAP(mop_load_update)(mop_load_settings settings, mop_load *session,
     uint8_t timer, const uint8_t *file, size_t size, const uint8_t *frame,
     size_t length, uint8_t *reply, size_t room)
 {
     const mop_written answer = REAL(mop_load_update)(
-        session, settings, timer, file, size, frame, length, reply, room);
+        settings, session, timer, file, size, frame, length, reply, room);
     session->sent += answer.refusal != 0;
     return answer;
 }
 #elif WRONG == 14 /* looks at the frame of a timer */
-mop_written WRAP(mop_dump_update)(mop_dump *session, mop_dump_settings settings,
+mop_written WRAP(mop_dump_update)(mop_dump_settings settings, mop_dump *session,
     uint8_t timer, const uint8_t *frame, size_t length, uint8_t *buffer,
     size_t size, uint8_t *reply, size_t room)
 {
     if (length > 0)
         (void)*(volatile const uint8_t *)frame;
     return REAL(mop_dump_update)(
-        session, settings, timer, frame, length, buffer, size, reply, room);
+        settings, session, timer, frame, length, buffer, size, reply, room);
 }
 #elif WRONG == 15 /* takes only 1 for a timer */
-mop_written WRAP(mop_dump_update)(mop_dump *session, mop_dump_settings settings,
+mop_written WRAP(mop_dump_update)(mop_dump_settings settings, mop_dump *session,
     uint8_t timer, const uint8_t *frame, size_t length, uint8_t *buffer,
     size_t size, uint8_t *reply, size_t room)
 {
-    return REAL(mop_dump_update)(session, settings, timer == 1, frame, length,
+    return REAL(mop_dump_update)(settings, session, timer == 1, frame, length,
         buffer, size, reply, room);
 }
 #endif

@@ -378,8 +378,8 @@ fn entry_fits(kind: u8, length: usize) -> bool {
 }
 
 /// A plain reader's answer in the shape of mop.h.
-fn fields(answer: Result<Frame, u8>, bytes: &[u8]) -> mop_proved::Frame {
-    let mut c = mop_proved::Frame::default();
+fn fields(answer: Result<Frame, u8>, bytes: &[u8]) -> mop_proved::Fields {
+    let mut c = mop_proved::Fields::default();
     let frame = match answer {
         Ok(frame) => frame,
         Err(refusal) => {

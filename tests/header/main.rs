@@ -1,30 +1,11 @@
 //! Compares include/mop.h with the Rattle source, as text: each exported call's
-//! parameters and answer, and each struct's fields, by name, type and order.
+//! parameters and answer, and each struct's fields, by name, type and order. A
+//! struct of the source is the one that the header has in the same place.
 //! Ends with 1 on any difference.
 
 use std::collections::{BTreeMap, BTreeSet};
 use std::fs;
 use std::process::ExitCode;
-
-/// The structs: crate, name there, name in the header.
-const STRUCTS: [(&str, &str, &str); 16] = [
-    ("octets", "Written", "mop_written"),
-    ("fields", "Fields", "mop_frame"),
-    ("mop", "ImageFields", "mop_image"),
-    ("mop", "SegmentFields", "mop_segment"),
-    ("machine", "Settings", "mop_machine_settings"),
-    ("machine", "Machine", "mop_machine"),
-    ("machine", "Stepped", "mop_machine_step"),
-    ("load", "Settings", "mop_load_settings"),
-    ("load", "Session", "mop_load"),
-    ("load", "Stepped", "mop_load_step"),
-    ("dump", "Settings", "mop_dump_settings"),
-    ("dump", "Session", "mop_dump"),
-    ("dump", "Stepped", "mop_dump_step"),
-    ("looptest", "Settings", "mop_loop_settings"),
-    ("looptest", "Session", "mop_loop"),
-    ("looptest", "Stepped", "mop_loop_step"),
-];
 
 /// Names that differ on purpose: `data` is reserved in Rattle.
 const NAMES: [(&str, &str); 2] = [("bytes", "data"), ("size", "memory_size")];
@@ -33,7 +14,8 @@ const NAMES: [(&str, &str); 2] = [("bytes", "data"), ("size", "memory_size")];
 type Parts = BTreeMap<String, Vec<String>>;
 
 fn main() -> ExitCode {
-    let (header, source) = (header(), source());
+    let header = header();
+    let (source, structs) = source(&header);
     let names: BTreeSet<&String> = header.keys().chain(source.keys()).collect();
     let mut good = true;
     for name in names {
@@ -44,11 +26,8 @@ fn main() -> ExitCode {
             good = false;
         }
     }
-    let calls = header.len() - STRUCTS.len();
-    println!(
-        "header: {calls} calls and {} structs, compared with the source",
-        STRUCTS.len()
-    );
+    let calls = source.len() - structs;
+    println!("header: {calls} calls and {structs} structs, compared with the source");
     if good {
         ExitCode::SUCCESS
     } else {
@@ -99,6 +78,9 @@ fn header() -> Parts {
         let Some((head, parameters)) = statement.split_once('(') else {
             continue;
         };
+        if head.contains("static inline ") {
+            continue; // no call of the library
+        }
         let mut head = head.rsplit(' ');
         let (Some(name), Some(answer)) = (head.next(), head.next()) else {
             continue;
@@ -133,50 +115,134 @@ fn header_call(parameters: &str, answer: &str) -> Vec<String> {
 
 // ---- the Rattle source
 
-fn source() -> Parts {
-    let mut parts = Parts::new();
-    for (library, name, in_header) in STRUCTS {
-        let source = text(&format!("crates/{library}/src/lib.rt"));
-        let head = format!("#[repr(C)]\npub struct {name} {{");
-        let body = between(&source, &head, "}").next().unwrap_or("");
-        let fields = body.split(',').map(words).filter(|field| !field.is_empty());
-        let fields = fields.map(|field| in_c(library, field.trim_start_matches("pub ")));
-        parts.insert(in_header.to_string(), fields.collect());
+/// A struct: its crate, and its name there.
+type Struct = (String, String);
+
+/// A parameter or field, or an answer, which has no name.
+struct Part {
+    name: String,
+    /// Without the `&` or `&mut` of what is lent.
+    kind: String,
+    lent: &'static str,
+    /// The struct that it is, if it is one.
+    found: Option<Struct>,
+}
+
+/// The exported calls, then the structs that they have and so on, under their
+/// names in the header; and how many structs there are.
+fn source(header: &Parts) -> (Parts, usize) {
+    let mut all = calls();
+    let mut names: BTreeMap<Struct, String> = BTreeMap::new();
+    let mut next = 0;
+    while next < all.len() {
+        let (name, parts) = &all[next];
+        let in_header = header.get(name).into_iter().flatten();
+        let mut structs = Vec::new();
+        for (part, declared) in parts.iter().zip(in_header) {
+            let (Some(found), Some(name)) = (&part.found, declared.split(' ').next()) else {
+                continue;
+            };
+            if !names.contains_key(found) && !names.values().any(|other| other == name) {
+                names.insert(found.clone(), name.to_string());
+                structs.push((name.to_string(), fields(found)));
+            }
+        }
+        all.extend(structs);
+        next += 1;
     }
-    let source = text("crates/mop/src/lib.rt");
-    for call in between(&source, "pub extern \"C\" fn ", "ensures") {
+    let in_c = |parts: Vec<Part>| parts.iter().map(|part| part.in_c(&names)).collect();
+    let parts = all.into_iter().map(|(name, parts)| (name, in_c(parts)));
+    (parts.collect(), names.len())
+}
+
+fn library(name: &str) -> String {
+    text(&format!("crates/{name}/src/lib.rt"))
+}
+
+/// The crates that export calls.
+const EXPORTS: [&str; 3] = ["mop_frames", "mop_steps", "mop_update"];
+
+fn calls() -> Vec<(String, Vec<Part>)> {
+    EXPORTS.into_iter().flat_map(calls_of).collect()
+}
+
+fn calls_of(place: &str) -> Vec<(String, Vec<Part>)> {
+    let source = library(place);
+    let calls = between(&source, "pub extern \"C\" fn ", "ensures").map(|call| {
         let (name, rest) = call.split_once('(').unwrap_or((call, ""));
         let (parameters, answer) = rest.split_once(") ->").unwrap_or((rest, ""));
-        let parameters = parameters.split(',').map(words).filter(|p| !p.is_empty());
-        let mut call: Vec<String> = parameters.map(|p| in_c("mop", &p)).collect();
-        call.push(type_in_c("mop", answer.trim()));
-        parts.insert(name.to_string(), call);
-    }
-    parts
+        let mut parts = listed(place, parameters);
+        parts.push(Part::new(place, &format!(": {}", answer.trim())));
+        (name.to_string(), parts)
+    });
+    calls.collect()
 }
 
-/// A field or parameter as C declares it.
-fn in_c(library: &str, declared: &str) -> String {
-    let (name, kind) = declared.split_once(": ").unwrap_or((declared, ""));
-    let renamed = NAMES.iter().find(|(source, _)| *source == name);
-    let name = renamed.map_or(name, |(_, header)| header);
-    match kind {
-        "&[u8]" => format!("const uint8_t *{name} and length"),
-        "&mut [u8]" => format!("uint8_t *{name} and length"),
-        _ => match kind.strip_prefix("&mut ") {
-            Some(lent) => format!("{} *{name}", type_in_c(library, lent)),
-            None => format!("{} {name}", type_in_c(library, kind)),
-        },
-    }
+fn fields((place, name): &Struct) -> Vec<Part> {
+    let source = library(place);
+    let head = format!("#[repr(C)]\npub struct {name} {{");
+    let body = between(&source, &head, "}").next().unwrap_or("");
+    listed(place, body)
 }
 
-fn type_in_c(library: &str, kind: &str) -> String {
-    let (library, name) = kind.split_once("::").unwrap_or((library, kind));
-    let exact = STRUCTS.iter().find(|s| s.0 == library && s.1 == name);
-    let imported = STRUCTS[..2].iter().find(|s| s.1 == name);
-    match (exact.or(imported), kind) {
-        (Some((_, _, in_header)), _) => in_header.to_string(),
-        (None, "usize") => "size_t".to_string(),
-        (None, _) => format!("uint{}_t", kind.trim_start_matches('u')),
+fn listed(place: &str, parts: &str) -> Vec<Part> {
+    let parts = parts.split(',').map(words).filter(|part| !part.is_empty());
+    parts.map(|part| Part::new(place, &part)).collect()
+}
+
+/// Where a struct is declared: in this crate, or where its path or a `use` leads.
+fn declared(place: &str, kind: &str) -> Struct {
+    if let Some((place, name)) = kind.rsplit_once("::") {
+        return declared(place, name);
+    }
+    let source = library(place);
+    if source.contains(&format!("\npub struct {kind} {{")) {
+        return (place.to_string(), kind.to_string());
+    }
+    let end = format!("::{kind};");
+    let used = source.lines().find_map(|line| {
+        let path = line.trim_start_matches("pub ").strip_prefix("use ")?;
+        path.strip_suffix(&end)
+    });
+    let used = used.unwrap_or_else(|| panic!("crates/{place}: no struct {kind}"));
+    declared(used, kind)
+}
+
+impl Part {
+    /// A part as it is declared in a crate.
+    fn new(place: &str, text: &str) -> Part {
+        let (name, kind) = text.split_once(": ").unwrap_or((text, ""));
+        let name = name.trim_start_matches("pub ");
+        let (lent, kind) = ["&mut ", "&"]
+            .iter()
+            .find_map(|lent| Some((*lent, kind.strip_prefix(lent)?)))
+            .unwrap_or(("", kind));
+        let plain = ["[u8]", "u8", "u16", "u32", "u64", "usize"].contains(&kind);
+        Part {
+            name: name.to_string(),
+            kind: kind.to_string(),
+            lent,
+            found: (!plain).then(|| declared(place, kind)),
+        }
+    }
+
+    /// As C declares it.
+    fn in_c(&self, names: &BTreeMap<Struct, String>) -> String {
+        let renamed = NAMES.iter().find(|(source, _)| *source == self.name);
+        let name = renamed.map_or(self.name.as_str(), |(_, header)| header);
+        let kind = match (&self.found, self.kind.as_str()) {
+            (Some(found), kind) => names.get(found).map_or(kind, |name| name).to_string(),
+            (None, "[u8]") => "uint8_t".to_string(),
+            (None, "usize") => "size_t".to_string(),
+            (None, number) => format!("uint{}_t", number.trim_start_matches('u')),
+        };
+        let star = if self.lent.is_empty() { "" } else { "*" };
+        let constant = if self.lent == "&" { "const " } else { "" };
+        let length = if self.kind == "[u8]" {
+            " and length"
+        } else {
+            ""
+        };
+        words(&format!("{constant}{kind} {star}{name}{length}"))
     }
 }

@@ -6,7 +6,7 @@ use crate::{Written, input, output};
 #[repr(C)]
 #[derive(Clone, Copy, Debug, Default, PartialEq, Eq)]
 pub struct MachineSettings {
-    pub dump_most: u32,
+    pub reply_bytes: u32,
     pub device: u8,
     pub processor: u8,
 }
@@ -46,7 +46,7 @@ pub struct Load {
 pub struct DumpSettings {
     pub length: u64,
     pub address: u32,
-    pub most: u32,
+    pub request_bytes: u32,
     pub repeats: u32,
 }
 
@@ -72,7 +72,7 @@ pub struct Step<Record> {
 
 // The same numbers as in layout.c.
 layout!(MachineSettings, 8, [
-    dump_most 0 4,
+    reply_bytes 0 4,
     device 4 1,
     processor 5 1,
 ]);
@@ -104,7 +104,7 @@ layout!(Step<Load>, 40, [
 layout!(DumpSettings, 24, [
     length 0 8,
     address 8 4,
-    most 12 4,
+    request_bytes 12 4,
     repeats 16 4,
 ]);
 layout!(Dump, 32, [
@@ -121,21 +121,21 @@ layout!(Step<Dump>, 48, [
 ]);
 
 unsafe extern "C" {
-    fn mop_machine_start_load(
+    pub fn mop_machine_start_load(
         settings: MachineSettings,
         memory: *const u8,
         memory_length: usize,
         reply: *mut u8,
         reply_length: usize,
     ) -> Step<Machine>;
-    fn mop_machine_start_dump(
+    pub fn mop_machine_start_dump(
         settings: MachineSettings,
         memory: *const u8,
         memory_length: usize,
         reply: *mut u8,
         reply_length: usize,
     ) -> Step<Machine>;
-    fn mop_machine_frame(
+    pub fn mop_machine_frame(
         settings: MachineSettings,
         machine: Machine,
         frame: *const u8,
@@ -145,7 +145,7 @@ unsafe extern "C" {
         reply: *mut u8,
         reply_length: usize,
     ) -> Step<Machine>;
-    fn mop_machine_timer(
+    pub fn mop_machine_timer(
         settings: MachineSettings,
         machine: Machine,
         memory: *const u8,
@@ -153,8 +153,8 @@ unsafe extern "C" {
         reply: *mut u8,
         reply_length: usize,
     ) -> Step<Machine>;
-    fn mop_load_start() -> Load;
-    fn mop_load_frame(
+    pub fn mop_load_start() -> Load;
+    pub fn mop_load_frame(
         settings: LoadSettings,
         session: Load,
         file: *const u8,
@@ -164,7 +164,7 @@ unsafe extern "C" {
         reply: *mut u8,
         reply_length: usize,
     ) -> Step<Load>;
-    fn mop_load_timer(
+    pub fn mop_load_timer(
         settings: LoadSettings,
         session: Load,
         file: *const u8,
@@ -172,8 +172,8 @@ unsafe extern "C" {
         reply: *mut u8,
         reply_length: usize,
     ) -> Step<Load>;
-    fn mop_dump_start() -> Dump;
-    fn mop_dump_frame(
+    pub fn mop_dump_start() -> Dump;
+    pub fn mop_dump_frame(
         settings: DumpSettings,
         session: Dump,
         frame: *const u8,
@@ -183,7 +183,7 @@ unsafe extern "C" {
         reply: *mut u8,
         reply_length: usize,
     ) -> Step<Dump>;
-    fn mop_dump_timer(
+    pub fn mop_dump_timer(
         settings: DumpSettings,
         session: Dump,
         buffer: *const u8,
@@ -191,9 +191,9 @@ unsafe extern "C" {
         reply: *mut u8,
         reply_length: usize,
     ) -> Step<Dump>;
-    fn mop_load_update(
-        session: *mut Load,
+    pub fn mop_load_update(
         settings: LoadSettings,
+        session: *mut Load,
         timer: u8,
         file: *const u8,
         file_length: usize,
@@ -202,9 +202,9 @@ unsafe extern "C" {
         reply: *mut u8,
         reply_length: usize,
     ) -> Written;
-    fn mop_dump_update(
-        session: *mut Dump,
+    pub fn mop_dump_update(
         settings: DumpSettings,
+        session: *mut Dump,
         timer: u8,
         frame: *const u8,
         frame_length: usize,
@@ -306,8 +306,8 @@ pub fn load_timer(
 
 /// `timer` is 0 where a frame has come.
 pub fn load_update(
-    session: &mut Load,
     settings: LoadSettings,
+    session: &mut Load,
     timer: u8,
     file: &[u8],
     frame: &[u8],
@@ -316,8 +316,8 @@ pub fn load_update(
     let (image, from, to) = (input(file), input(frame), output(reply));
     unsafe {
         mop_load_update(
-            session,
             settings,
+            session,
             timer,
             image,
             file.len(),
@@ -366,8 +366,8 @@ pub fn dump_timer(
 }
 
 pub fn dump_update(
-    session: &mut Dump,
     settings: DumpSettings,
+    session: &mut Dump,
     timer: u8,
     frame: &[u8],
     buffer: &mut [u8],
@@ -376,8 +376,8 @@ pub fn dump_update(
     let (from, store, to) = (input(frame), output(buffer), output(reply));
     unsafe {
         mop_dump_update(
-            session,
             settings,
+            session,
             timer,
             from,
             frame.len(),

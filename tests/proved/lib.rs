@@ -1,4 +1,5 @@
-//! The proved library, libmop.a, behind safe functions.
+//! The proved library, libmop.a: the header's calls, and safe functions over
+//! them for the comparison.
 //!
 //! The declarations mirror include/mop.h. The layout of the structs is fixed
 //! here and, for the header, in layout.c; the rest is left to the eye and the
@@ -29,10 +30,10 @@ pub use looping::*;
 use std::ptr;
 use std::sync::atomic::{AtomicBool, Ordering};
 
-/// `mop_frame`: those fields that the code does not have are 0.
+/// `mop_fields`: those fields that the code does not have are 0.
 #[repr(C)]
 #[derive(Clone, Copy, Debug, Default, PartialEq, Eq)]
-pub struct Frame {
+pub struct Fields {
     pub data_at: usize,
     pub data_length: usize,
     pub id_at: usize,
@@ -84,7 +85,7 @@ pub struct Segment {
 }
 
 // The same numbers as in layout.c.
-layout!(Frame, 64, [
+layout!(Fields, 64, [
     data_at 0 8,
     data_length 8 8,
     id_at 16 8,
@@ -125,8 +126,8 @@ layout!(Segment, 24, [
 
 #[link(name = "mop", kind = "static")]
 unsafe extern "C" {
-    fn mop_read(frame: *const u8, frame_length: usize) -> Frame;
-    fn mop_write_load_transfer(
+    pub fn mop_read(frame: *const u8, frame_length: usize) -> Fields;
+    pub fn mop_write_load_transfer(
         number: u8,
         address: u32,
         data: *const u8,
@@ -135,7 +136,7 @@ unsafe extern "C" {
         out: *mut u8,
         out_length: usize,
     ) -> Written;
-    fn mop_write_load(
+    pub fn mop_write_load(
         number: u8,
         address: u32,
         data: *const u8,
@@ -143,7 +144,7 @@ unsafe extern "C" {
         out: *mut u8,
         out_length: usize,
     ) -> Written;
-    fn mop_write_request_program(
+    pub fn mop_write_request_program(
         device: u8,
         format: u8,
         program: u8,
@@ -156,10 +157,19 @@ unsafe extern "C" {
         out: *mut u8,
         out_length: usize,
     ) -> Written;
-    fn mop_write_request_load(number: u8, error: u8, out: *mut u8, out_length: usize) -> Written;
-    fn mop_write_request_dump(address: u32, count: u16, out: *mut u8, out_length: usize)
-    -> Written;
-    fn mop_write_request_dump_service(
+    pub fn mop_write_request_load(
+        number: u8,
+        error: u8,
+        out: *mut u8,
+        out_length: usize,
+    ) -> Written;
+    pub fn mop_write_request_dump(
+        address: u32,
+        count: u16,
+        out: *mut u8,
+        out_length: usize,
+    ) -> Written;
+    pub fn mop_write_request_dump_service(
         device: u8,
         format: u8,
         memory_size: u32,
@@ -169,16 +179,16 @@ unsafe extern "C" {
         out: *mut u8,
         out_length: usize,
     ) -> Written;
-    fn mop_write_dump_data(
+    pub fn mop_write_dump_data(
         address: u32,
         data: *const u8,
         data_length: usize,
         out: *mut u8,
         out_length: usize,
     ) -> Written;
-    fn mop_write_dump_complete(out: *mut u8, out_length: usize) -> Written;
-    fn mop_write_volunteer(out: *mut u8, out_length: usize) -> Written;
-    fn mop_write_parameters(
+    pub fn mop_write_dump_complete(out: *mut u8, out_length: usize) -> Written;
+    pub fn mop_write_volunteer(out: *mut u8, out_length: usize) -> Written;
+    pub fn mop_write_parameters(
         number: u8,
         entries: *const u8,
         entries_length: usize,
@@ -186,22 +196,22 @@ unsafe extern "C" {
         out: *mut u8,
         out_length: usize,
     ) -> Written;
-    fn mop_write_loop(
+    pub fn mop_write_loop(
         receipt: u16,
         data: *const u8,
         data_length: usize,
         out: *mut u8,
         out_length: usize,
     ) -> Written;
-    fn mop_write_looped(
+    pub fn mop_write_looped(
         receipt: u16,
         data: *const u8,
         data_length: usize,
         out: *mut u8,
         out_length: usize,
     ) -> Written;
-    fn mop_image_check(file: *const u8, file_length: usize, segment_size: u32) -> Image;
-    fn mop_image_segment(
+    pub fn mop_image_check(file: *const u8, file_length: usize, segment_size: u32) -> Image;
+    pub fn mop_image_segment(
         file: *const u8,
         file_length: usize,
         segment_size: u32,
@@ -235,7 +245,7 @@ fn output(bytes: &mut [u8]) -> *mut u8 {
 // In every call below the pointers are good for the lengths beside them, and
 // an output buffer, being borrowed for writing, overlaps no input.
 
-pub fn read(frame: &[u8]) -> Frame {
+pub fn read(frame: &[u8]) -> Fields {
     unsafe { mop_read(input(frame), frame.len()) }
 }
 

@@ -35,14 +35,14 @@ layout!(Step<Loop>, 32, [
 ]);
 
 unsafe extern "C" {
-    fn mop_loop_start(
+    pub fn mop_loop_start(
         settings: LoopSettings,
         data: *const u8,
         data_length: usize,
         reply: *mut u8,
         reply_length: usize,
     ) -> Step<Loop>;
-    fn mop_loop_frame(
+    pub fn mop_loop_frame(
         settings: LoopSettings,
         session: Loop,
         data: *const u8,
@@ -52,7 +52,7 @@ unsafe extern "C" {
         reply: *const u8,
         reply_length: usize,
     ) -> Step<Loop>;
-    fn mop_loop_timer(
+    pub fn mop_loop_timer(
         settings: LoopSettings,
         session: Loop,
         data: *const u8,

@@ -77,7 +77,7 @@ impl Compare {
             settings: DumpSettings {
                 length: 1 << 32,
                 address: 0,
-                most: 1495,
+                request_bytes: 1495,
                 repeats: 255,
             },
         };
@@ -196,7 +196,7 @@ fn windowed<R>(
 fn machine() -> Machine {
     Machine {
         settings: MachineSettings {
-            dump_most: 9,
+            reply_bytes: 9,
             ..Default::default()
         },
         purpose: Purpose::Load,

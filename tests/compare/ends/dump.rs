@@ -33,7 +33,7 @@ impl End for Dump {
         let settings = dump::Settings {
             length: self.settings.length,
             address: self.settings.address,
-            most: self.settings.most,
+            most: self.settings.request_bytes,
             repeats: self.settings.repeats,
         };
         let mut session = Session::from_numbers(
@@ -78,7 +78,7 @@ impl End for Dump {
         reply: &mut [u8],
     ) -> Option<Written> {
         let (timer, frame) = event.numbers()?;
-        let answer = mop_proved::dump_update(record, self.settings, timer, frame, buffer, reply);
+        let answer = mop_proved::dump_update(self.settings, record, timer, frame, buffer, reply);
         Some(answer)
     }
 
@@ -129,7 +129,7 @@ impl Compare {
             settings: DumpSettings {
                 length: 5,
                 address: 7,
-                most: 3,
+                request_bytes: 3,
                 repeats: 1,
             },
         };
@@ -188,7 +188,7 @@ impl Compare {
             settings: DumpSettings {
                 length,
                 address: address as u32,
-                most: self.random.pick(&[1, small, small, 1494, 1495]),
+                request_bytes: self.random.pick(&[1, small, small, 1494, 1495]),
                 repeats: self.random.pick(&[0, 0, 1, 2, 254, 255, any]),
             },
         }
@@ -201,9 +201,8 @@ impl Compare {
         }
         let verdict = self.random.pick(&[0, 0, 0, 0, 0, 0, 0, 1, 2, 3]);
         let length = settings.length;
-        let most = u64::from(settings.most);
         let any = self.random.below(length);
-        let near = length.saturating_sub(most);
+        let near = length.saturating_sub(settings.request_bytes.into());
         let filled = match verdict {
             1 => length,
             _ => self.random.pick(&[0, any, any, near, length - 1]),
@@ -255,7 +254,7 @@ impl Compare {
     fn dump_setting_fault(&mut self, settings: &mut DumpSettings, buffer: &mut Vec<u8>) {
         let length = settings.length;
         match self.random.below(8) {
-            0 => settings.most = self.random.pick(&[0, 1496, 65_537, u32::MAX]),
+            0 => settings.request_bytes = self.random.pick(&[0, 1496, 65_537, u32::MAX]),
             1 => settings.repeats = self.random.pick(&[256, 65_536, u32::MAX]),
             2 => {
                 settings.length = 0;
@@ -337,7 +336,7 @@ impl Compare {
             true => self.random.pick(&wrong),
             false => right,
         };
-        let asked = (settings.length - filled).min(settings.most.into()) as usize;
+        let asked = (settings.length - filled).min(settings.request_bytes.into()) as usize;
         let any = self.random.range(0, asked);
         let over = (asked + 1).min(1495);
         let length = self.random.pick(&[0, 1, any, any, asked, asked, over]);
@@ -349,7 +348,7 @@ impl Compare {
             settings: DumpSettings {
                 length: 40,
                 address: 7,
-                most: 30,
+                request_bytes: 30,
                 repeats: 1,
             },
         };

@@ -80,7 +80,7 @@ impl End for Load<'_> {
     ) -> Option<Written> {
         let (timer, frame) = event.numbers()?;
         let (settings, Hex(file)) = (self.settings, self.file);
-        let answer = mop_proved::load_update(record, settings, timer, file, frame, reply);
+        let answer = mop_proved::load_update(settings, record, timer, file, frame, reply);
         Some(answer)
     }
 

@@ -42,7 +42,7 @@ impl End for Machine {
         reply: &mut [u8],
     ) -> Result<(Self::Record, Sent), u8> {
         let settings = machine::Settings {
-            dump_most: self.settings.dump_most,
+            dump_most: self.settings.reply_bytes,
             device: self.settings.device,
             processor: self.settings.processor,
         };
@@ -167,7 +167,7 @@ impl Compare {
         let any = self.random.range(1, 1495) as u32;
         Machine {
             settings: MachineSettings {
-                dump_most: self.random.pick(&[1, 2, 4, 20, 1494, 1495, any]),
+                reply_bytes: self.random.pick(&[1, 2, 4, 20, 1494, 1495, any]),
                 device: self.random.u8(),
                 processor: self.random.u8(),
             },
@@ -191,7 +191,7 @@ impl Compare {
     fn machine_set_cases(&mut self) {
         let end = Machine {
             settings: MachineSettings {
-                dump_most: 4,
+                reply_bytes: 4,
                 ..Default::default()
             },
             purpose: Purpose::Load,
@@ -300,7 +300,7 @@ impl Compare {
         let mut memory = self.any_memory();
         let mut end = self.good_machine();
         let mut record = self.any_state();
-        let frame = self.frame_for_machine(record.expected, end.settings.dump_most, memory.len());
+        let frame = self.frame_for_machine(record.expected, end.settings.reply_bytes, memory.len());
         let event = match self.random.below(10) {
             0 => Event::Start,
             1 | 2 => Event::Timer,
@@ -317,7 +317,7 @@ impl Compare {
             early = 10;
             if matches!(event, Event::Start) || self.random.once_in(2) {
                 let bad = [0, 1496, 65_536, 65_537, 1 << 31, u32::MAX];
-                end.settings.dump_most = self.random.pick(&bad);
+                end.settings.reply_bytes = self.random.pick(&bad);
             } else {
                 record.state = self.number_from(5);
             }
@@ -346,12 +346,12 @@ impl Compare {
     }
 
     /// A frame that may matter to a machine that expects this number.
-    fn frame_for_machine(&mut self, expected: u8, dump_most: u32, memory: usize) -> Vec<u8> {
+    fn frame_for_machine(&mut self, expected: u8, reply_bytes: u32, memory: usize) -> Vec<u8> {
         let frame = match self.random.below(10) {
             0..=4 => self.any_load(expected, memory),
             5 | 6 => {
-                let address = self.address_about(memory, dump_most as usize);
-                let near = dump_most as u16;
+                let address = self.address_about(memory, reply_bytes as usize);
+                let near = reply_bytes as u16;
                 let any = self.random.u16();
                 let count = [0, 1, near - 1, near, near + 1, 256, u16::MAX, any];
                 frames::request_dump(address, self.random.pick(&count))

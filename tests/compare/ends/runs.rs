@@ -305,23 +305,23 @@ impl Compare {
     pub fn dump_runs(&mut self) {
         for _ in 0..2500 {
             let length = self.random.range(1, 60);
-            let most = [(); 2].map(|()| self.random.range(1, 20) as u32);
+            let bytes = [(); 2].map(|()| self.random.range(1, 20) as u32);
             let mix = self.any_mix();
             let events = self.random.range(0, 40 + 6 * length);
-            self.dump_run(length, most, mix, events);
+            self.dump_run(length, bytes, mix, events);
         }
         for round in 0..12 {
-            let (length, most) = match round % 2 {
+            let (length, bytes) = match round % 2 {
                 0 => (self.random.range(257, 700), [1, 1]),
                 _ => (self.random.range(3000, 9000), [1495, 1495]),
             };
             let mix = [CLEAN, DOUBLED, LOSSY][round % 3];
-            self.dump_run(length, most, mix, 8000);
+            self.dump_run(length, bytes, mix, 8000);
         }
     }
 
-    /// A dump of `length` bytes, with C and D.
-    fn dump_run(&mut self, length: usize, most: [u32; 2], mix: Mix, events: usize) {
+    /// A dump of `length` bytes; `bytes` are C and D.
+    fn dump_run(&mut self, length: usize, bytes: [u32; 2], mix: Mix, events: usize) {
         let memory_length = self.random.pick(&[0, 1, length / 2, length, 2 * length]);
         let memory = self.random.bytes(memory_length);
         let top = u32::MAX - (length as u32 - 1);
@@ -332,13 +332,13 @@ impl Compare {
                 address: self
                     .random
                     .pick(&[0, near, near, memory_length as u32, top]),
-                most: most[0],
+                request_bytes: bytes[0],
                 repeats: self.random.pick(&[0, 1, 2, 3, 255, 255]),
             },
         };
         let machine = Machine {
             settings: MachineSettings {
-                dump_most: most[1],
+                reply_bytes: bytes[1],
                 ..Default::default()
             },
             purpose: Purpose::Dump,
@@ -354,7 +354,7 @@ impl Compare {
 pub fn loadable(device: u8, processor: u8) -> Machine {
     Machine {
         settings: MachineSettings {
-            dump_most: 1,
+            reply_bytes: 1,
             device,
             processor,
         },
