@@ -1,1 +1,1 @@
-// The set cases of paper 01, as theorems on the definitions (specs/).
+// The set cases K1 to K12 of paper 01 and its worked examples, as theorems (specs/).

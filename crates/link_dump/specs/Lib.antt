@@ -4,4 +4,3 @@ pub mod Host
 pub mod Alone
 pub mod Invariant
 pub mod Theorem
-pub mod Example

@@ -9,4 +9,3 @@ pub mod Theorem
 pub mod Regions
 pub mod Audit
 pub mod Records
-pub mod Example
