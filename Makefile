@@ -160,7 +160,7 @@ lint: $(OUT)/page.inc
 DRIVER       = target/driver
 DRIVER_CC    = $(CC11) -D_GNU_SOURCE -Idriver
 PROGRAMS     = mopimage mopload mopdump mopmachine
-PARTS        = line words options files host progress sha256 pieces hexfiles
+PARTS        = line lock privileges words options files part record report host progress sha256 pieces hexfiles
 
 driver: $(PROGRAMS:%=$(DRIVER)/%)
 
@@ -174,6 +174,10 @@ $(PROGRAMS:%=$(DRIVER)/%): %: %.o $(PARTS:%=$(DRIVER)/%.o) $(LIB)
 $(DRIVER)/probe: tests/driver/probe.c $(PARTS:%=$(DRIVER)/%.o) $(LIB)
 	@$(DRIVER_CC) -o $@ $^
 
+$(DRIVER)/say: tests/driver/say.c
+	@mkdir -p $(DRIVER)
+	@$(DRIVER_CC) -o $@ $<
+
 # The simulator whose boot ROM the driver is tested with; without it that test is skipped.
 simh:
 	@command -v pdp11 >/dev/null || DEBIAN_FRONTEND=noninteractive timeout 120 apt-get install -y simh </dev/null >/dev/null 2>&1 || echo "make: the package simh cannot be had"
@@ -183,5 +187,5 @@ line-bench: driver
 	@bash bench/line
 
 # The driver on a line of its own; tests/run does the same.
-driver-test: driver $(DRIVER)/probe simh target/bin/frames
-	@for test in images veth ends readme rom; do bash tests/driver/$$test || [ $$? = 77 ] || exit 1; done
+driver-test: driver $(DRIVER)/probe $(DRIVER)/say simh target/bin/frames
+	@for test in images veth ends verdicts readme rom; do bash tests/driver/$$test || [ $$? = 77 ] || exit 1; done
