@@ -160,7 +160,7 @@ lint: $(OUT)/page.inc
 DRIVER       = target/driver
 DRIVER_CC    = $(CC11) -D_GNU_SOURCE -Idriver
 PROGRAMS     = mopimage mopload mopdump mopmachine
-PARTS        = line words options files host progress sha256 pieces hexfiles
+PARTS        = line words options files host progress sha256 pieces hexfiles listing
 
 driver: $(PROGRAMS:%=$(DRIVER)/%)
 
@@ -184,4 +184,4 @@ line-bench: driver
 
 # The driver on a line of its own; tests/run does the same.
 driver-test: driver $(DRIVER)/probe simh target/bin/frames
-	@for test in images veth ends readme rom; do bash tests/driver/$$test || [ $$? = 77 ] || exit 1; done
+	@for test in images records veth ends readme rom; do bash tests/driver/$$test || [ $$? = 77 ] || exit 1; done
