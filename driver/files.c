@@ -43,7 +43,7 @@ int file_read(const char *path, size_t most, contents *file)
     if (in == NULL)
         return cannot(path, "read");
     int status = read_to(in, path, most, file);
-    fclose(in);
+    (void)fclose(in);
     if (status != 0) {
         free(file->bytes);
         *file = (contents){NULL, 0};

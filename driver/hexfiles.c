@@ -17,7 +17,7 @@ typedef struct record {
     const char *path;
     size_t line;
     size_t column;
-    char kind; /* S-records: the digit behind the S */
+    int kind; /* S-records: the digit behind the S */
     uint8_t bytes[RECORD_MOST];
     size_t count;
     uint64_t base; /* Intel HEX: added to the addresses */

@@ -1,5 +1,6 @@
 #include "pieces.h"
 
+#include <assert.h>
 #include <inttypes.h>
 #include <stdlib.h>
 #include <string.h>
@@ -10,6 +11,7 @@
 
 static int grow_list(pieces *p)
 {
+    assert(p->count <= p->room && (p->room == 0) == (p->list == NULL));
     if (p->count < p->room)
         return 0;
     size_t room = p->room == 0 ? 256 : 2 * p->room;
