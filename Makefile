@@ -178,15 +178,16 @@ $(DRIVER)/%.o: driver/%.c $(wildcard driver/*.h) include/mop.h
 $(PROGRAMS:%=$(DRIVER)/%): %: %.o $(PARTS:%=$(DRIVER)/%.o) $(LIB)
 	@gcc -o $@ $^
 
-$(DRIVER)/probe: tests/driver/probe.c $(PARTS:%=$(DRIVER)/%.o) $(LIB)
+# What only the tests need.
+$(DRIVER)/probe $(DRIVER)/digest: $(DRIVER)/%: tests/driver/%.c $(PARTS:%=$(DRIVER)/%.o) $(LIB)
 	@$(DRIVER_CC) -o $@ $^
 
 # The same programs with the address and undefined behaviour sanitizers, which most tests take.
 SANITIZED       = target/sanitized
-SANITIZED_TESTS = images records veth ends
-PLAIN_TESTS     = readme rom
+SANITIZED_TESTS = images records sums veth ends
+PLAIN_TESTS     = sums readme rom
 
-driver-sanitized: $(PROGRAMS:%=$(SANITIZED)/%) $(SANITIZED)/probe
+driver-sanitized: $(PROGRAMS:%=$(SANITIZED)/%) $(SANITIZED)/digest
 
 $(SANITIZED)/%.o: driver/%.c $(wildcard driver/*.h) include/mop.h
 	@mkdir -p $(SANITIZED)
@@ -195,7 +196,7 @@ $(SANITIZED)/%.o: driver/%.c $(wildcard driver/*.h) include/mop.h
 $(PROGRAMS:%=$(SANITIZED)/%): %: %.o $(PARTS:%=$(SANITIZED)/%.o) $(LIB)
 	@gcc $(SANITIZE) -o $@ $^
 
-$(SANITIZED)/probe: tests/driver/probe.c $(PARTS:%=$(SANITIZED)/%.o) $(LIB)
+$(SANITIZED)/probe $(SANITIZED)/digest: $(SANITIZED)/%: tests/driver/%.c $(PARTS:%=$(SANITIZED)/%.o) $(LIB)
 	@$(DRIVER_CC) $(SANITIZE) -o $@ $^
 
 # Mutated files and frames, always the same ones for a SEED. tests/fuzz/wrong tries whether the fuzzer finds faults.
@@ -225,6 +226,6 @@ line-bench: driver
 	@bash bench/line
 
 # The driver on a line of its own; tests/run does the same.
-driver-test: driver driver-sanitized $(DRIVER)/probe simh target/bin/frames
+driver-test: driver driver-sanitized $(DRIVER)/probe $(DRIVER)/digest simh target/bin/frames
 	@for test in $(SANITIZED_TESTS); do DRIVER_PROGRAMS=$(CURDIR)/$(SANITIZED) bash tests/driver/$$test || [ $$? = 77 ] || exit 1; done
 	@for test in $(PLAIN_TESTS); do bash tests/driver/$$test || [ $$? = 77 ] || exit 1; done
