@@ -14,7 +14,15 @@
 #define DUMP_REST (MOP_FRAME_MOST - MOP_DUMP_DATA_MOST) /* what code 14 has beside the data */
 #define ASKS 8 /* requests to one host without an answer, before all are asked again */
 
-enum { OPTION_MEMORY = OPTION_OWN, OPTION_OFFER, OPTION_FILL, OPTION_SAVE, OPTION_DEVICE, OPTION_PROCESSOR };
+enum {
+    OPTION_MEMORY = OPTION_OWN,
+    OPTION_OFFER,
+    OPTION_FILL,
+    OPTION_SAVE,
+    OPTION_FORCE,
+    OPTION_DEVICE,
+    OPTION_PROCESSOR
+};
 
 typedef struct machine_end {
     common_settings common;
@@ -22,7 +30,7 @@ typedef struct machine_end {
     mop_machine machine;
     contents memory;
     const char *fill;
-    const char *save;
+    output save; /* no path for none */
     bool offer;
     uint8_t host[ADDRESS_LENGTH]; /* whom it asks, ASSISTANCE for all */
     unsigned asked;               /* how often without an answer */
@@ -86,6 +94,23 @@ static int volunteer(machine_end *m, const line_frame *frame)
     return timer(m);
 }
 
+static int take(machine_end *m, const line_frame *frame)
+{
+    uint8_t reply[MOP_FRAME_MOST];
+    bool free_to_choose = memcmp(m->host, ASSISTANCE, ADDRESS_LENGTH) == 0;
+    if (frame->multicast)
+        return 0;
+    if (free_to_choose && asks(m) && mop_read(frame->bytes, frame->length).code == MOP_CODE_VOLUNTEER)
+        return volunteer(m, frame);
+    if (memcmp(frame->from, m->host, ADDRESS_LENGTH) != 0)
+        return 0;
+    m->asked = 0;
+    m->limit = clock_now() + (int64_t)m->common.wait * 1000;
+    mop_machine_step step = mop_machine_frame(
+        m->settings, m->machine, frame->bytes, frame->length, m->memory.bytes, m->memory.length, reply, sizeof reply);
+    return carry(m, step, reply);
+}
+
 /* ---- The machine as the line runs it --------------------------------- */
 
 static bool over(const void *end)
@@ -102,20 +127,7 @@ static int64_t due(const void *end)
 
 static int on_frame(void *end, line_frame *frame)
 {
-    machine_end *m = end;
-    uint8_t reply[MOP_FRAME_MOST];
-    bool free_to_choose = memcmp(m->host, ASSISTANCE, ADDRESS_LENGTH) == 0;
-    if (frame->multicast)
-        return 0;
-    if (free_to_choose && asks(m) && mop_read(frame->bytes, frame->length).code == MOP_CODE_VOLUNTEER)
-        return volunteer(m, frame);
-    if (memcmp(frame->from, m->host, ADDRESS_LENGTH) != 0)
-        return 0;
-    m->asked = 0;
-    m->limit = clock_now() + (int64_t)m->common.wait * 1000;
-    mop_machine_step step = mop_machine_frame(
-        m->settings, m->machine, frame->bytes, frame->length, m->memory.bytes, m->memory.length, reply, sizeof reply);
-    return carry(m, step, reply);
+    return take(end, frame);
 }
 
 /* The timer, or the end of the wait. */
@@ -142,8 +154,9 @@ static const char manual[] = "NAME\n"
                              "  mopmachine - be a machine that asks for a program or offers a dump\n"
                              "\n"
                              "SYNOPSIS\n"
-                             "  mopmachine -i INTERFACE --memory N [--offer] [--fill FILE] [--save FILE]\n"
-                             "             [-D N] [--timer MS] [--wait S] [--trace FILE]\n"
+                             "  mopmachine -i INTERFACE --memory N [--offer] [--fill FILE]\n"
+                             "             [--save FILE [--force]] [-D N] [--timer MS] [--wait S]\n"
+                             "             [--trace FILE]\n"
                              "\n"
                              "DESCRIPTION\n"
                              "  The machine end as a process, to rehearse a shift without the machine. It\n"
@@ -158,7 +171,11 @@ static const char manual[] = "NAME\n"
                              "  --fill FILE\n"
                              "        What the memory holds at first, from address 0 on; the rest is 0.\n"
                              "  --save FILE\n"
-                             "        Write the memory to FILE at the end, however it ends.\n"
+                             "        Write the memory to FILE at the end, however it ends. A file that is\n"
+                             "        there is replaced only with --force; a device, a directory and the\n"
+                             "        FILE of --fill never are.\n"
+                             "  --force\n"
+                             "        Replace the file of --save.\n"
                              "  -D N, --dump-most N\n"
                              "        Bytes of a dump reply at most, 1 to 1493. Default 1024.\n"
                              "  --device N, --processor N\n"
@@ -197,7 +214,10 @@ static int option(int c, const char *value, machine_end *m)
         m->fill = value;
         return 0;
     case OPTION_SAVE:
-        m->save = value;
+        m->save.path = value;
+        return 0;
+    case OPTION_FORCE:
+        m->save.force = true;
         return 0;
     case 'D':
         return option_small("-D", value, 1, DUMP_MOST, &m->settings.reply_bytes);
@@ -214,9 +234,9 @@ static int options(int count, char **words, machine_end *m)
 {
     static const struct option known[] = {LINE_OPTIONS, {"memory", required_argument, NULL, OPTION_MEMORY},
         {"offer", no_argument, NULL, OPTION_OFFER}, {"fill", required_argument, NULL, OPTION_FILL},
-        {"save", required_argument, NULL, OPTION_SAVE}, {"dump-most", required_argument, NULL, 'D'},
-        {"device", required_argument, NULL, OPTION_DEVICE}, {"processor", required_argument, NULL, OPTION_PROCESSOR},
-        {NULL, 0, NULL, 0}};
+        {"save", required_argument, NULL, OPTION_SAVE}, {"force", no_argument, NULL, OPTION_FORCE},
+        {"dump-most", required_argument, NULL, 'D'}, {"device", required_argument, NULL, OPTION_DEVICE},
+        {"processor", required_argument, NULL, OPTION_PROCESSOR}, {NULL, 0, NULL, 0}};
     for (int c = 0; (c = getopt_long(count, words, "i:D:h", known, NULL)) != -1;) {
         int status = option(c, optarg, m);
         if (status != 0)
@@ -250,7 +270,7 @@ static int conclude(machine_end *m, int status)
         printf("Started at 0x%08" PRIX32 ".\n", m->machine.transfer);
     else
         printf("The machine is %s.\n", state_words(m->machine.state));
-    int saved = m->save == NULL ? 0 : file_write(m->save, m->memory.bytes, m->memory.length);
+    int saved = m->save.path == NULL ? 0 : output_write(&m->save, m->memory.bytes, m->memory.length);
     return status == 0 ? saved : status;
 }
 
@@ -261,7 +281,11 @@ static int on_the_line(machine_end *m)
         return status;
     if (m->settings.reply_bytes + DUMP_REST > m->line.longest)
         m->settings.reply_bytes = m->line.longest - DUMP_REST;
-    status = fill(m);
+    m->save.inputs = &m->fill;
+    m->save.inputs_count = m->fill != NULL;
+    status = m->save.path == NULL ? 0 : output_check(&m->save);
+    if (status == 0)
+        status = fill(m);
     if (status == 0)
         status = conclude(m, run(m));
     line_close(&m->line);
