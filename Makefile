@@ -184,7 +184,7 @@ $(DRIVER)/probe $(DRIVER)/say $(DRIVER)/digest: $(DRIVER)/%: tests/driver/%.c $(
 
 # The same programs with the address and undefined behaviour sanitizers, which most tests take.
 SANITIZED       = target/sanitized
-SANITIZED_TESTS = images records sums veth ends verdicts
+SANITIZED_TESTS = images records sums veth ends verdicts kept rights
 PLAIN_TESTS     = sums readme rom
 
 driver-sanitized: $(PROGRAMS:%=$(SANITIZED)/%) $(SANITIZED)/say $(SANITIZED)/digest

@@ -28,15 +28,22 @@ static bool write_new(const char *name, const char *text, mode_t mode)
     return good;
 }
 
+static int cannot(const char *name)
+{
+    if (errno == EEXIST)
+        return complain(STATUS_FILE, "%s is there already, and a dump replaces no file: move it away", name);
+    return complain(STATUS_FILE, "%s cannot be written: %s", name, strerror(errno));
+}
+
 /* The draft is whole before it becomes the record. */
 static int put(const char *path, const char *text, mode_t mode, int (*rename_to)(const char *, const char *))
 {
     char *record = name_with(path, ".record"), *draft = name_with(path, ".record.part");
     int status = record != NULL && draft != NULL ? 0 : STATUS_OTHER;
     if (status == 0 && !write_new(draft, text, mode)) {
-        status = complain(STATUS_FILE, "%s cannot be written: %s", draft, strerror(errno));
+        status = cannot(draft);
     } else if (status == 0 && rename_to(draft, record) != 0) {
-        status = complain(STATUS_FILE, "%s cannot be written: %s", record, strerror(errno));
+        status = cannot(record);
         unlink(draft);
     }
     free(record);
