@@ -38,8 +38,8 @@ int signals_catch(void)
         if (sigaction(ending[i], NULL, &now) == 0 && now.sa_handler != SIG_IGN)
             sigaddset(&caught, ending[i]);
     }
-    signal(SIGPIPE, SIG_IGN);
-    signal(SIGXFSZ, SIG_IGN);
+    (void)signal(SIGPIPE, SIG_IGN);
+    (void)signal(SIGXFSZ, SIG_IGN);
     sigprocmask(SIG_BLOCK, &caught, NULL);
     signal_fd = signalfd(-1, &caught, SFD_CLOEXEC);
     return signal_fd >= 0 ? 0 : complain(STATUS_OTHER, "no way to wait for signals: %s", strerror(errno));

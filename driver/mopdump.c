@@ -221,7 +221,7 @@ static int check_earlier(dumping *d, const contents *came)
     FILE *out = fmemopen(range, sizeof range, "w");
     if (out != NULL) {
         report_range(d, out);
-        fclose(out);
+        (void)fclose(out);
     }
     if (record_find(d->earlier, range, &length) == NULL || length != 0)
         return complain(STATUS_FILE, "%s.record is of another range: --resume does not fit", d->path);

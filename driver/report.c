@@ -26,7 +26,8 @@ static void write_head(const dumping *d, const char *how, FILE *out)
     char machine[ADDRESS_TEXT], own[ADDRESS_TEXT], date[32];
     time_t now = time(NULL);
     struct tm utc;
-    strftime(date, sizeof date, "%Y-%m-%dT%H:%M:%SZ", gmtime_r(&now, &utc));
+    if (gmtime_r(&now, &utc) == NULL || strftime(date, sizeof date, "%Y-%m-%dT%H:%M:%SZ", &utc) == 0)
+        date[0] = '\0';
     fprintf(out, "dump: %s\ndate: %s\n", how, date);
     fprintf(out, "host: %s, interface %s\n", address_text(d->host->line.address, own), d->host->line.name);
     if (d->begun != NULL)
