@@ -186,11 +186,24 @@ static int file_failed(dumping *d)
     return STATUS_FILE;
 }
 
+/* The record has the sum before the file has its name. */
+static void report_before_name(const dumping *d)
+{
+    char *file = NULL;
+    if (asprintf(&file, "%s, to be named %s", d->copies[0].part.name, d->path) < 0)
+        return;
+    report_end(d, 0, "finished", file);
+    free(file);
+}
+
 static int file_finished(dumping *d)
 {
     part *p = &d->copies[0].part;
     part_grow(p, d->copies[0].bytes, d->range.length);
-    if (p->written < d->range.length || part_name(p) != 0)
+    if (p->written < d->range.length || part_keep(p) != 0)
+        return file_failed(d);
+    report_before_name(d);
+    if (part_name(p) != 0)
         return file_failed(d);
     if (d->twice)
         part_remove(&d->copies[1].part);

@@ -27,13 +27,24 @@
 
 const uint8_t ASSISTANCE[ADDRESS_LENGTH] = {0xAB, 0x00, 0x00, 0x01, 0x00, 0x00};
 
-/* Readable once a signal has come; -1 before signals_catch. */
+/* Readable once a signal has come; -1 before process_begin. */
 static int signal_fd = -1;
 
-int signals_catch(void)
+/* What is opened later must not get the number of the standard output. */
+static void open_standard(void)
+{
+    int fd = open("/dev/null", O_RDWR);
+    while (fd >= 0 && fd <= STDERR_FILENO)
+        fd = dup(fd);
+    if (fd >= 0)
+        close(fd);
+}
+
+int process_begin(void)
 {
     static const int ending[] = {SIGINT, SIGQUIT, SIGTERM, SIGHUP};
     sigset_t caught;
+    open_standard();
     sigemptyset(&caught);
     for (size_t i = 0; i < sizeof ending / sizeof ending[0]; i++) {
         struct sigaction now;
@@ -121,8 +132,8 @@ static int bind_interface(line *l)
     return complain(STATUS_INTERFACE, "%s cannot be used: %s", l->name, strerror(errno));
 }
 
-/* A trace has in it what a dump has. It replaces no file; to a terminal or a
- * pipe it may go. */
+/* A trace has in it what a dump has. It replaces no file that holds anything; to
+ * a terminal or a pipe it may go. */
 static int open_trace(line *l, const char *path)
 {
     struct stat there;
@@ -130,7 +141,7 @@ static int open_trace(line *l, const char *path)
         return 0;
     int fd = open(path, O_WRONLY | O_CREAT | O_EXCL | O_CLOEXEC, 0600);
     if (fd < 0 && errno == EEXIST) {
-        if (stat(path, &there) != 0 || S_ISREG(there.st_mode))
+        if (stat(path, &there) != 0 || (S_ISREG(there.st_mode) && there.st_size > 0))
             return complain(STATUS_FILE, "%s is there already, and a trace replaces no file", path);
         fd = open(path, O_WRONLY | O_CLOEXEC);
     }

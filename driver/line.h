@@ -93,10 +93,10 @@ int line_run(line *l, const line_end *calls, void *end);
 /* Milliseconds of a clock that never goes back. */
 int64_t clock_now(void);
 
-/* From now on interrupt, quit, hangup and termination end line_receive, and
+/* To be called first. From now on interrupt, quit, hangup and termination end line_receive, and
  * nothing else: a file that is being written is written. Those that were
  * ignored stay ignored (nohup). A reader of the output who has gone, and a file
  * that grows too long, are errors of the writing. 0 or an exit status. */
-int signals_catch(void);
+int process_begin(void);
 
 #endif

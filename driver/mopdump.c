@@ -250,7 +250,7 @@ int main(int count, char **words)
     words_program("mopdump");
     int status = options(count, words, &h, &d);
     if (status == 0)
-        status = signals_catch();
+        status = process_begin();
     if (status == 0)
         status = run(&h, &d);
     for (size_t i = 0; i < 2; i++) {

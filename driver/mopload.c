@@ -270,7 +270,7 @@ int main(int count, char **words)
     words_program("mopload");
     int status = options(count, words, &h, &l);
     if (status == 0)
-        status = signals_catch();
+        status = process_begin();
     if (status == 0)
         status = run(&h, &l);
     free(l.file.bytes);

@@ -298,7 +298,7 @@ int main(int count, char **words)
     words_program("mopmachine");
     int status = options(count, words, &m);
     if (status == 0)
-        status = signals_catch();
+        status = process_begin();
     if (status == 0)
         status = on_the_line(&m);
     free(m.memory.bytes);

@@ -167,9 +167,6 @@ int rename_free(const char *from, const char *to)
 
 int part_name(part *p)
 {
-    int status = part_keep(p);
-    if (status != 0)
-        return status;
     if (rename_free(p->name, p->path) == 0) {
         directory_sync(p->path);
         return 0;

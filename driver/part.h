@@ -40,7 +40,7 @@ int part_again(part *p, const char *path, uint64_t length, uint64_t written, mod
  * is tried again the next time. */
 void part_grow(part *p, const uint8_t *bytes, uint64_t length);
 
-/* Syncs: 0, or an exit status with the reason said. Then names it PATH. */
+/* Syncs; and names it PATH. 0, or an exit status with the reason said. */
 int part_keep(part *p);
 int part_name(part *p);
 
