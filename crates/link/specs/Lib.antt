@@ -5,3 +5,6 @@ pub mod Numbered
 pub mod Each
 pub mod Alone
 pub mod MachineEnd
+pub mod Bounded
+pub mod BoundedLaws
+pub mod Theorem

@@ -12,6 +12,7 @@ use Rattle.machine_next.specs.declared.Settings.{Settings as MachineSettings}
 use Rattle.load_next.specs.declared.Session.{Session}
 use Rattle.load_next.specs.declared.Settings.{Settings as LoadSettings}
 use Rattle.link.specs.Link.{World, Event, run, always}
+use Rattle.link.specs.Bounded.{Alike}
 use Rattle.link.specs.Numbered as numbered
 use Rattle.link.specs.Numbered.{Transfer}
 use Rattle.link.specs.Alone.{Alone}
@@ -39,6 +40,23 @@ pub record Report (s : LoadSettings) (file old : List ℕ) (w : World Session En
   pub rejected-at : w .host .verdict ≡ 2 → w .host .position < many (s .«segment_size») (regions file)
   pub given-up-at : w .host .verdict ≡ 3 → w .host .position + 1 < many (s .«segment_size») (regions file)
   pub unconfirmed-at : w .host .verdict ≡ 4 → w .host .position + 1 ≡ many (s .«segment_size») (regions file)
+
+-- it says nothing of the queues
+pub report-alike : (s : LoadSettings) (file old : List ℕ) (w v : World Session End) → Alike w v → Report s file old w → Report s file old v
+report-alike s file old w v a r =
+    let x : World Session End = record { host = w .host; machine = w .machine; toMachine = v .toMachine; toHost = v .toHost; taken = w .taken } in
+    let same : x ≡ v = rw (a .0, a .1, a .2) in
+    subst (Report s file old) same (record {
+      waiting = r .waiting;
+      rejected = r .rejected;
+      finished = r .finished;
+      otherwise = r .otherwise;
+      counted = r .counted;
+      bounded = r .bounded;
+      rejected-at = r .rejected-at;
+      given-up-at = r .given-up-at;
+      unconfirmed-at = r .unconfirmed-at;
+    })
 
 module _ (s : LoadSettings) (ms : MachineSettings) (file old : List ℕ) (ok : cutRefusal file (s .«segment_size») ≡ 0) (o : Octets file) where
   abbrev N : ℕ
