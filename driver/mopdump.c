@@ -46,8 +46,10 @@ static mop_written step(
     void *job, uint8_t timer, const uint8_t *frame, size_t frame_length, uint8_t *reply, size_t reply_length)
 {
     dumping *d = job;
-    return mop_dump_update(
-        d->settings, &d->session, timer, frame, frame_length, d->buffer, d->settings.length, reply, reply_length);
+    if (timer != 0)
+        return mop_dump_update_timer(d->settings, &d->session, d->buffer, d->settings.length, reply, reply_length);
+    return mop_dump_update_frame(
+        d->settings, &d->session, frame, frame_length, d->buffer, d->settings.length, reply, reply_length);
 }
 
 /* A step that begins does not write to the buffer. */
@@ -56,8 +58,8 @@ static bool begins(const void *job, const line_frame *frame)
     const dumping *d = job;
     uint8_t reply[MESSAGE_MOST];
     mop_dump trial = mop_dump_start();
-    mop_dump_update(
-        d->settings, &trial, 0, frame->bytes, frame->length, d->buffer, d->settings.length, reply, sizeof reply);
+    mop_dump_update_frame(
+        d->settings, &trial, frame->bytes, frame->length, d->buffer, d->settings.length, reply, sizeof reply);
     return trial.waiting == 0;
 }
 

@@ -31,9 +31,11 @@
  *
  *         while (session.verdict == MOP_LOAD_RUNNING) {
  *             size_t length = line_wait(frame, sizeof frame);
- *             mop_written answer = mop_load_update(settings, &session,
- *                 length == 0, file, file_length, frame, length,
- *                 reply, sizeof reply);
+ *             mop_written answer = length > 0
+ *                 ? mop_load_update_frame(settings, &session, file,
+ *                       file_length, frame, length, reply, sizeof reply)
+ *                 : mop_load_update_timer(settings, &session, file,
+ *                       file_length, reply, sizeof reply);
  *             if (mop_refused_frame(answer.refusal))
  *                 continue;
  *             if (answer.refusal != MOP_ACCEPTED)
@@ -54,9 +56,11 @@
  *
  *         while (session.verdict == MOP_DUMP_RUNNING) {
  *             size_t length = line_wait(frame, sizeof frame);
- *             mop_written answer = mop_dump_update(settings, &session,
- *                 length == 0, frame, length, buffer, buffer_length,
- *                 reply, sizeof reply);
+ *             mop_written answer = length > 0
+ *                 ? mop_dump_update_frame(settings, &session, frame, length,
+ *                       buffer, buffer_length, reply, sizeof reply)
+ *                 : mop_dump_update_timer(settings, &session,
+ *                       buffer, buffer_length, reply, sizeof reply);
  *             if (mop_refused_frame(answer.refusal))
  *                 continue;
  *             if (answer.refusal != MOP_ACCEPTED)
@@ -85,9 +89,8 @@
  * every lent byte is as it was. Where several refusals apply, the first in the
  * order given at the call is answered.
  *
- * Order. In every step: settings, record, whether the timer has run out (where
- * one call takes both), lent bytes that stay the same over a session, frame,
- * memory or dump buffer, reply buffer.
+ * Order. In every step: settings, record, lent bytes that stay the same over a
+ * session, frame, memory or dump buffer, reply buffer.
  *
  * Records. A step takes a session's record by value and answers the next one,
  * or it updates the record where it stands. Hand it to the next step, and
@@ -499,7 +502,7 @@ typedef struct mop_load_step {
  * 0. Refuses nothing. */
 mop_load mop_load_start(void);
 
-/* In each of the three calls below:
+/* In each of the four calls below:
  *   In     the image file, which is not changed and stays the same over a
  *          load; a reply buffer of at least 1,500 bytes.
  *   Out    the next record, and the length of the frame to send, 0 for none;
@@ -531,13 +534,14 @@ mop_load_step mop_load_timer(mop_load_settings settings, mop_load session,
     const uint8_t *file, size_t file_length, uint8_t *reply,
     size_t reply_length);
 
-/* Both of these in one call, and the record is updated where it stands: with
- * timer 0 a frame has come, with anything else the timer has run out, and then
- * frame is not looked at (null and 0 will do). session points to a record that
- * overlaps nothing else that is lent. If refused, it stays as it was. */
-mop_written mop_load_update(mop_load_settings settings, mop_load *session,
-    uint8_t timer, const uint8_t *file, size_t file_length,
-    const uint8_t *frame, size_t frame_length, uint8_t *reply,
+/* The same two steps, and the record is updated where it stands. session points
+ * to a record that overlaps nothing else that is lent. If refused, it stays as
+ * it was. */
+mop_written mop_load_update_frame(mop_load_settings settings, mop_load *session,
+    const uint8_t *file, size_t file_length, const uint8_t *frame,
+    size_t frame_length, uint8_t *reply, size_t reply_length);
+mop_written mop_load_update_timer(mop_load_settings settings, mop_load *session,
+    const uint8_t *file, size_t file_length, uint8_t *reply,
     size_t reply_length);
 
 /* ---- The host's dump ------------------------------------------------- */
@@ -572,7 +576,7 @@ typedef struct mop_dump_step {
  * 0. Refuses nothing. */
 mop_dump mop_dump_start(void);
 
-/* In each of the three calls below:
+/* In each of the four calls below:
  *   In     a dump buffer of exactly the settings' length, which the caller
  *          leaves alone over a dump; a reply buffer of at least 1,500 bytes.
  *   Out    the next record, and the length of the frame to send, 0 for none;
@@ -606,13 +610,15 @@ mop_dump_step mop_dump_timer(mop_dump_settings settings, mop_dump session,
     const uint8_t *buffer, size_t buffer_length, uint8_t *reply,
     size_t reply_length);
 
-/* Both of these in one call, and the record is updated where it stands: with
- * timer 0 a frame has come, with anything else the timer has run out, and then
- * frame is not looked at (null and 0 will do). session points to a record that
- * overlaps nothing else that is lent. If refused, it stays as it was. */
-mop_written mop_dump_update(mop_dump_settings settings, mop_dump *session,
-    uint8_t timer, const uint8_t *frame, size_t frame_length, uint8_t *buffer,
+/* The same two steps, and the record is updated where it stands. session points
+ * to a record that overlaps nothing else that is lent. If refused, it stays as
+ * it was. */
+mop_written mop_dump_update_frame(mop_dump_settings settings, mop_dump *session,
+    const uint8_t *frame, size_t frame_length, uint8_t *buffer,
     size_t buffer_length, uint8_t *reply, size_t reply_length);
+mop_written mop_dump_update_timer(mop_dump_settings settings, mop_dump *session,
+    const uint8_t *buffer, size_t buffer_length, uint8_t *reply,
+    size_t reply_length);
 
 /* ---- The host's loop test -------------------------------------------- */
 

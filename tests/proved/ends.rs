@@ -191,10 +191,9 @@ unsafe extern "C" {
         reply: *mut u8,
         reply_length: usize,
     ) -> Step<Dump>;
-    pub fn mop_load_update(
+    pub fn mop_load_update_frame(
         settings: LoadSettings,
         session: *mut Load,
-        timer: u8,
         file: *const u8,
         file_length: usize,
         frame: *const u8,
@@ -202,13 +201,28 @@ unsafe extern "C" {
         reply: *mut u8,
         reply_length: usize,
     ) -> Written;
-    pub fn mop_dump_update(
+    pub fn mop_load_update_timer(
+        settings: LoadSettings,
+        session: *mut Load,
+        file: *const u8,
+        file_length: usize,
+        reply: *mut u8,
+        reply_length: usize,
+    ) -> Written;
+    pub fn mop_dump_update_frame(
         settings: DumpSettings,
         session: *mut Dump,
-        timer: u8,
         frame: *const u8,
         frame_length: usize,
         buffer: *mut u8,
+        buffer_length: usize,
+        reply: *mut u8,
+        reply_length: usize,
+    ) -> Written;
+    pub fn mop_dump_update_timer(
+        settings: DumpSettings,
+        session: *mut Dump,
+        buffer: *const u8,
         buffer_length: usize,
         reply: *mut u8,
         reply_length: usize,
@@ -304,21 +318,18 @@ pub fn load_timer(
     unsafe { mop_load_timer(settings, session, image, file.len(), to, reply.len()) }
 }
 
-/// `timer` is 0 where a frame has come.
-pub fn load_update(
+pub fn load_update_frame(
     settings: LoadSettings,
     session: &mut Load,
-    timer: u8,
     file: &[u8],
     frame: &[u8],
     reply: &mut [u8],
 ) -> Written {
     let (image, from, to) = (input(file), input(frame), output(reply));
     unsafe {
-        mop_load_update(
+        mop_load_update_frame(
             settings,
             session,
-            timer,
             image,
             file.len(),
             from,
@@ -327,6 +338,16 @@ pub fn load_update(
             reply.len(),
         )
     }
+}
+
+pub fn load_update_timer(
+    settings: LoadSettings,
+    session: &mut Load,
+    file: &[u8],
+    reply: &mut [u8],
+) -> Written {
+    let (image, to) = (input(file), output(reply));
+    unsafe { mop_load_update_timer(settings, session, image, file.len(), to, reply.len()) }
 }
 
 pub fn dump_start() -> Dump {
@@ -365,20 +386,18 @@ pub fn dump_timer(
     unsafe { mop_dump_timer(settings, session, from, buffer.len(), to, reply.len()) }
 }
 
-pub fn dump_update(
+pub fn dump_update_frame(
     settings: DumpSettings,
     session: &mut Dump,
-    timer: u8,
     frame: &[u8],
     buffer: &mut [u8],
     reply: &mut [u8],
 ) -> Written {
     let (from, store, to) = (input(frame), output(buffer), output(reply));
     unsafe {
-        mop_dump_update(
+        mop_dump_update_frame(
             settings,
             session,
-            timer,
             from,
             frame.len(),
             store,
@@ -387,4 +406,14 @@ pub fn dump_update(
             reply.len(),
         )
     }
+}
+
+pub fn dump_update_timer(
+    settings: DumpSettings,
+    session: &mut Dump,
+    buffer: &[u8],
+    reply: &mut [u8],
+) -> Written {
+    let (from, to) = (input(buffer), output(reply));
+    unsafe { mop_dump_update_timer(settings, session, from, buffer.len(), to, reply.len()) }
 }
