@@ -171,4 +171,15 @@ mop_written WRAP(mop_dump_update_timer)(mop_dump_settings settings,
     *session = before;
     return answer;
 }
+#elif WRONG == 16 /* changes the record on a frame that it ignores */
+mop_machine_step WRAP(mop_machine_frame)(mop_machine_settings settings,
+    mop_machine machine, const uint8_t *frame, size_t length, uint8_t *memory,
+    size_t size, uint8_t *reply, size_t room)
+{
+    mop_machine_step step = REAL(mop_machine_frame)(
+        settings, machine, frame, length, memory, size, reply, room);
+    if (step.answer.refusal == 0 && step.answer.length == 0)
+        step.machine.error ^= 1;
+    return step;
+}
 #endif
