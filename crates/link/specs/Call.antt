@@ -8,7 +8,7 @@ use lib.Seq.{take-at}
 use lib.Dec.{eqb}
 use native.Mathlib.Omega.{arith}
 use borrow.Author.Tests.{ne-eqb}
-use Rattle.octets.specs.Cases.{by-cases}
+use Rattle.octets.specs.TestLaws.{by-cases}
 use Rattle.message.specs.Message.{Message, memoryLoadTransfer, memoryLoad, requestProgram, requestLoad, requestDump, requestDumpService, dumpData, dumpComplete, volunteer, parameters, loopData, loopedData}
 use Rattle.message.specs.Write.{layout, sent}
 use Rattle.step.specs.Step.{Sending, nothing, sends, Act, Outcome, call, told}

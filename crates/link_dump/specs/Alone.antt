@@ -7,7 +7,7 @@ use native.Mathlib.Omega.{arith}
 use native.Mathlib.Nat.{add-mul}
 use lib.Dec.{eqb}
 use borrow.Author.Tests.{eq-eqb, ne-eqb, le-leb, eqb-true, eqb-false}
-use Rattle.octets.specs.Cases.{by-cases}
+use Rattle.octets.specs.TestLaws.{by-cases}
 use Rattle.dump_next.specs.declared.Settings.{Settings}
 use Rattle.dump_next.specs.Next as next
 use Rattle.dump.specs.Dump as dump

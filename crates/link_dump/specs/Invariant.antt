@@ -8,7 +8,7 @@ use lib.ListN.{length}
 use borrow.Author.Tests.{eqb-true, leb-true}
 use Rattle.octets.specs.Number.{low}
 use Rattle.octets.specs.Lay.{over}
-use Rattle.octets.specs.Cases.{by-cases}
+use Rattle.octets.specs.TestLaws.{by-cases}
 use Rattle.memory.specs.Memory.{bytesFrom}
 use Rattle.memory.specs.Laws.{length-bytesFrom}
 use Rattle.message.specs.declared.Fields.{Fields}

@@ -8,7 +8,7 @@ use native.Mathlib.Omega.{arith}
 use lib.ListN.{length}
 use lib.Dec.{eqb}
 use borrow.Author.Tests.{eq-eqb, ne-eqb, eqb-false}
-use Rattle.octets.specs.Cases.{by-cases}
+use Rattle.octets.specs.TestLaws.{by-cases}
 use Rattle.message.specs.Message.{Message, requestProgram, requestLoad}
 use Rattle.message.specs.Write.{layout}
 use Rattle.step.specs.Step.{nothing, sends, acts}

@@ -6,7 +6,7 @@ use mathlib.Core.List.{List, [], _∷_}
 use native.Mathlib.Omega.{arith}
 use lib.Dec.{eqb, ltb}
 use borrow.Author.Tests.{eqb-true, eqb-false, ltb-true, ltb-false}
-use Rattle.octets.specs.Cases.{by-cases, both}
+use Rattle.octets.specs.TestLaws.{by-cases, both}
 use Rattle.message.specs.declared.Fields.{Fields}
 use Rattle.message.specs.Message.{requestProgram, requestLoad}
 use Rattle.message.specs.Read.{fields}

@@ -8,7 +8,7 @@ use lib.ListN.{length}
 use lib.Dec.{eqb, leb}
 use borrow.Author.Tests.{eq-eqb, ne-eqb, le-leb, eqb-true, eqb-false}
 use Rattle.octets.specs.Number.{Octets}
-use Rattle.octets.specs.Cases.{by-cases}
+use Rattle.octets.specs.TestLaws.{by-cases}
 use Rattle.image.specs.Image.{cutRefusal, demand, widest}
 use Rattle.image.specs.Image.{refusal as imageRefusal}
 use Rattle.image.specs.Laws.{ready}

@@ -9,7 +9,7 @@ use lib.Seq.{take-all, getD-take}
 use lib.Dec.{eqb, ltb}
 use borrow.Author.Tests.{ne-eqb, lt-ltb, le-ltb, ltb-true, ltb-false}
 use Rattle.bytes.specs.Bytes.{indexOf}
-use Rattle.octets.specs.Cases.{by-cases}
+use Rattle.octets.specs.TestLaws.{by-cases}
 use Rattle.octets.specs.declared.Written.{Written}
 use Rattle.octets.specs.Lay.{Came}
 use Rattle.message.specs.declared.Fields.{Fields}
@@ -18,7 +18,7 @@ use Rattle.message.specs.Read.{fields, refusedFields, byte, longest}
 use Rattle.text.specs.Text.{chars, placed}
 use Rattle.text.specs.Laws.{by-test}
 use Rattle.pattern.specs.Pattern.{filling, sentenced}
-use Rattle.pattern.specs.Most.{weigh, every, filling-most}
+use Rattle.pattern.specs.MostLaws.{weigh, every, filling-most}
 use Rattle.hexadecimal.specs.declared.Line.{Line}
 use Rattle.hexadecimal.specs.Hexadecimal.{Decoded, notHexadecimal, spelled, isDigit, pairs, hexadecimal}
 use Rattle.hexadecimal.specs.Line.{Held, stepped, run, opened, ended}

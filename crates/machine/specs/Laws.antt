@@ -8,8 +8,9 @@ use lib.ListN.{length, length-append, length-take, length-drop}
 use lib.Dec.{eqb}
 use borrow.Author.Tests.{eqb-true}
 use Rattle.octets.specs.declared.Written.{Written}
-use Rattle.octets.specs.Number.{Octets, length-low}
-use Rattle.octets.specs.Cases.{by-cases}
+use Rattle.octets.specs.Number.{Octets}
+use Rattle.octets.specs.NumberLaws.{length-low}
+use Rattle.octets.specs.TestLaws.{by-cases}
 use Rattle.octets.specs.Lay.{Came}
 use Rattle.memory.specs.Memory.{fits, deposited}
 use Rattle.memory.specs.Laws.{length-bytesFrom}
@@ -24,13 +25,9 @@ use Rattle.machine_next.specs.declared.Settings.{Settings}
 use Rattle.machine_next.specs.declared.Machine.{Machine}
 use Rattle.machine_next.specs.declared.Next.{Next}
 use Rattle.machine_next.specs.Next.{is, heed, byNumber, onLoad, onDump, react, sending, does}
+use Rattle.machine.specs.Inner.{Short}
 
 -- ---- what is sent
--- it is listed, and has at most 1,500 bytes
-abbrev pub Short : Sending → Type 0
-Short nothing = Unit {0}
-Short (sends what) = (listed what ≡ true) × (length (layout what) ≤ 1500)
-
 -- the data of an accepted loop frame leaves room for the code and the receipt
 loop-part : (s : List ℕ) → Octets s → fields s .refusal ≡ 0 → fields s .code ≡ 24 → length (layout (loopedData (fields s .receipt) (part s (fields s)))) ≤ 1500
 unfolding read layout

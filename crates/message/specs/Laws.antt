@@ -12,9 +12,10 @@ use lib.ListN.{length, getD, take, drop, length-append, length-take, length-drop
 use lib.Seq.{drop-cons, drop-drop, drop-at, take-at, getD-at, take-all, take-length, getD-take, getD-drop}
 use lib.Dec.{eqb, leb, ltb}
 use borrow.Author.Tests.{eq-eqb, ne-eqb, lt-ltb, le-ltb, eqb-true, eqb-false, ltb-false, leb-true}
-use Rattle.octets.specs.Number.{number, low, Octets, octets-part, length-low, part-bound, number-low, low-number}
+use Rattle.octets.specs.Number.{number, low, Octets}
+use Rattle.octets.specs.NumberLaws.{octets-part, length-low, part-bound, number-low, low-number}
 use Rattle.octets.specs.declared.Written.{Written}
-use Rattle.octets.specs.Cases.{by-cases, both}
+use Rattle.octets.specs.TestLaws.{by-cases, both}
 use Rattle.octets.specs.Lay.{Output, written, refuse, laid, Came}
 use Rattle.entries.specs.declared.Place.{Place}
 use Rattle.entries.specs.declared.Place.the-variants.{Kind, Size, Value, Time, Transfer, Outside, Excess}

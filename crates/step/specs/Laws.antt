@@ -8,7 +8,7 @@ use lib.ListN.{length}
 use lib.Dec.{eqb}
 use borrow.Author.Tests.{eqb-true, eqb-false, eq-eqb, ne-eqb}
 use Rattle.octets.specs.declared.Written.{Written}
-use Rattle.octets.specs.Cases.{by-cases}
+use Rattle.octets.specs.TestLaws.{by-cases}
 use Rattle.octets.specs.Lay.{Output, Came, written, refused}
 use Rattle.message.specs.declared.Fields.{Fields}
 use Rattle.message.specs.Message.{Message}

@@ -8,7 +8,7 @@ use lib.ListN.{length, getD, take, drop, length-append, length-take, length-drop
 use lib.Dec.{eqb, leb}
 use borrow.Author.Tests.{leb-true}
 use Rattle.bytes.specs.Bytes.{indexOf}
-use Rattle.octets.specs.Cases.{by-cases, both}
+use Rattle.octets.specs.TestLaws.{by-cases, both}
 use Rattle.digits.specs.Laws.{length-digits}
 use Rattle.decimal.specs.Decimal.{decimal}
 use Rattle.decimal.specs.Laws.{decimal-most}
