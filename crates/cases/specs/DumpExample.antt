@@ -5,8 +5,7 @@ use mathlib.Core.Bool.{true}
 use mathlib.Core.List.{List, [], _∷_}
 use lib.ListN.{replicate}
 use Rattle.octets.specs.Number.{number, low}
-use Rattle.message.specs.Message.{least, leastIn}
-use Rattle.message.specs.Read.{byCode, fields}
+use Rattle.message.specs.Read.{find, fields}
 use Rattle.message.specs.Write.{layout}
 use Rattle.memory.specs.Memory.{bytesFrom}
 use Rattle.step.specs.Step.{first}
@@ -41,5 +40,5 @@ finishes : after s ms (7 ∷ 8 ∷ 9 ∷ []) (5 ∷ 5 ∷ 5 ∷ []) events .host
   session = record { filled = 3; replies = 2; sent = 4; repeats = 0; waiting = 0; verdict = 1 };
   buffer = 8 ∷ 9 ∷ 0 ∷ [];
 }
-unfolding run byCode fields least leastIn layout low number first bytesFrom
+unfolding run find fields layout low number first bytesFrom
 finishes = refl

@@ -1,5 +1,5 @@
 -- What a call comes to on the link: it is refused, or the end acts, and the frame that it sends joins its queue.
-use Prim.Native.Nat.{ℕ, _<_}
+use Prim.Native.Nat.{ℕ}
 use mathlib.Core.Path.{_≡_, refl}
 use mathlib.Core.List.{List, [], _∷_}
 use mathlib.Core.Logic.{_⊎_, inl, inr}
@@ -9,8 +9,9 @@ use lib.Dec.{eqb}
 use native.Mathlib.Omega.{arith}
 use borrow.Author.Tests.{ne-eqb}
 use Rattle.octets.specs.TestLaws.{by-cases}
-use Rattle.message.specs.Message.{Message, memoryLoadTransfer, memoryLoad, requestProgram, requestLoad, requestDump, requestDumpService, dumpData, dumpComplete, volunteer, parameters, loopData, loopedData}
+use Rattle.message.specs.Message.{Message}
 use Rattle.message.specs.Write.{layout, sent}
+use Rattle.message.specs.Laws.{begins}
 use Rattle.step.specs.Step.{Sending, nothing, sends, Act, Outcome, call, told}
 use Rattle.link.specs.Link.{Frame, Turn, refuses, acts, turn}
 
@@ -27,22 +28,6 @@ Comes t e out = (t ≡ refuses) ⊎ (t ≡ acts e out)
 pub came : {E : Type 0} (P : Turn E → Type 0) (t : Turn E) (e : E) (out : List Frame) → Comes t e out → P refuses → P (acts e out) → P t
 came P t e out (inl q) r a = rw q r
 came P t e out (inr q) r a = rw q a
-
--- no frame is empty: it begins with its code
-begins : (m : Message) → 0 < length (layout m)
-unfolding layout
-begins (memoryLoadTransfer number address bytes transfer) = omega arith
-begins (memoryLoad number address bytes) = omega arith
-begins (requestProgram device format program form id processor info) = omega arith
-begins (requestLoad number error) = omega arith
-begins (requestDump address count) = omega arith
-begins (requestDumpService device format size compatibility info) = omega arith
-begins (dumpData address bytes) = omega arith
-begins dumpComplete = omega arith
-begins volunteer = omega arith
-begins (parameters number entries transfer) = omega arith
-begins (loopData receipt bytes) = omega arith
-begins (loopedData receipt bytes) = omega arith
 
 turn-sent : {E : Type 0} (end : E) (m : Message) (reply : List ℕ) → turn end (sent m reply .answer) (sent m reply .buffer) ≡ acts end (layout m ∷ [])
 turn-sent end m reply = rw (ne-eqb (length (layout m)) 0 (omega (arith, begins m)), take-at (layout m) (drop (length (layout m)) reply) (length (layout m)) refl)

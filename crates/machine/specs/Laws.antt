@@ -16,7 +16,7 @@ use Rattle.memory.specs.Memory.{fits, deposited}
 use Rattle.memory.specs.Laws.{length-bytesFrom}
 use Rattle.message.specs.declared.Fields.{Fields}
 use Rattle.message.specs.Message.{Message, loopData, loopedData}
-use Rattle.message.specs.Read.{message, fields, part, read}
+use Rattle.message.specs.Read.{message, find, fields, part, read}
 use Rattle.message.specs.Write.{layout, listed, write}
 use Rattle.message.specs.Laws.{fields-inside, fields-short, written-read}
 use Rattle.step.specs.Step.{Sending, nothing, sends, Act, acts, gives, Leaves}
@@ -30,7 +30,7 @@ use Rattle.machine.specs.Inner.{Short}
 -- ---- what is sent
 -- the data of an accepted loop frame leaves room for the code and the receipt
 loop-part : (s : List ℕ) → Octets s → fields s .refusal ≡ 0 → fields s .code ≡ 24 → length (layout (loopedData (fields s .receipt) (part s (fields s)))) ≤ 1500
-unfolding read layout
+unfolding read find layout
 loop-part s o z e =
     let what = loopData (fields s .receipt) (part s (fields s)) in
     let reads : read s ≡ message what = rw (z, e) in

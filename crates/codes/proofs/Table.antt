@@ -4,12 +4,13 @@ use Prim.Native.Nat.{ℕ, zero, suc, _+_, _<_}
 use mathlib.Core.Path.{_≡_, refl, ap, _∙_, sym}
 use mathlib.Core.Bool.{Bool, true, false, _&&_}
 use mathlib.Core.List.{List, [], _∷_}
+use mathlib.Core.Option.{Option, none, some}
 use native.Mathlib.Nat.{add-zero, zero-add, add-suc, suc-add, le-of-suc-le-suc, not-suc-le-zero}
 use native.Mathlib.Omega.{arith}
 use lib.ListN.{getD}
 use lib.Dec.{T, leb, leb→le}
 use borrow.Author.Tests.{ne-eqb}
-use Rattle.message.specs.Message.{Row, leastIn}
+use Rattle.message.specs.Read.{Row, find}
 
 -- the rule's n values from i on
 abbrev pub values : {A : Type 0} → (ℕ → A) → ℕ → ℕ → List A
@@ -35,8 +36,8 @@ both true false t = absurd t
 both false b t = absurd t
 
 -- no code above n has a row then
-pub none-above : (rows : List Row) (n code : ℕ) → T (atMost n rows) → n < code → leastIn rows code ≡ 0
-unfolding leastIn
+pub none-above : (rows : List Row) (n code : ℕ) → T (atMost n rows) → n < code → find rows code ≡ none
+unfolding find
 none-above [] n code t h = refl
 none-above (row ∷ rest) n code t h =
     let p = both (leb (row .code) n) (atMost n rest) t in

@@ -1,13 +1,13 @@
 use borrow.Author.Needs.{needs}
+use Prim.Native.Nat.{ℕ}
 use native.Mathlib.Omega.{arith}
-use Rattle.message.specs.Message.{rows, least, leastIn}
-use Rattle.reader.specs.Table.{marked}
-use Rattle.reader.proofs.Table.{entry as table-entry, none-above}
-use Rattle.reader.proofs.entry.Statement.{statement}
-use Rattle.reader.proofs.entry.Tie as tie
+use Rattle.message.specs.Read.{rows, find}
+use Rattle.codes.specs.Table.{marked}
+use Rattle.codes.proofs.Table.{entry as table-entry, none-above}
+use Rattle.codes.proofs.entry.Statement.{statement}
+use Rattle.codes.proofs.entry.Tie as tie
 
 returns : tie.Need-returns
-unfolding least
 returns c = rw (none-above rows 26 (c .before .args .code) tt (c .if1 .taken))
 
 mul-result : tie.Need-mul-result
@@ -17,8 +17,8 @@ array-read-result : tie.Need-array-read-result
 array-read-result c = search needs
 
 returns-2 : tie.Need-returns-2
-unfolding least leastIn
-returns-2 c = table-entry marked 0 27 (c .before .args .code) (omega arith)
+unfolding find
+returns-2 c = table-entry (λ (code : ℕ). marked (find rows code)) 0 27 (c .before .args .code) (omega arith)
 
 pub entry-spec : {M : Type 1} → statement M
 entry-spec = tie.close (tie.spec returns mul-result array-read-result returns-2)
