@@ -1,6 +1,6 @@
 -- What a call comes to on the link: it is refused, or the end acts, and the frame that it sends joins its queue.
 use Prim.Native.Nat.{ℕ, _<_}
-use mathlib.Core.Path.{_≡_, refl}
+use mathlib.Core.Path.{_≡_, refl, sym, _∙_}
 use mathlib.Core.List.{List, [], _∷_}
 use mathlib.Core.Logic.{_⊎_, inl, inr}
 use lib.ListN.{length, drop}
@@ -9,15 +9,12 @@ use lib.Dec.{eqb}
 use native.Mathlib.Omega.{arith}
 use borrow.Author.Tests.{ne-eqb}
 use Rattle.octets.specs.Cases.{by-cases}
+use Rattle.message.specs.declared.Fields.{Fields}
+use Rattle.message.specs.Read.{fields}
 use Rattle.message.specs.Message.{Message, memoryLoadTransfer, memoryLoad, requestProgram, requestLoad, requestDump, requestDumpService, dumpData, dumpComplete, volunteer, parameters, loopData, loopedData}
 use Rattle.message.specs.Write.{layout, sent}
-use Rattle.step.specs.Step.{Sending, nothing, sends, Act, Outcome, call, told}
-use Rattle.link.specs.Link.{Frame, Turn, refuses, acts, turn}
-
--- what is sent, as frames
-abbrev pub queued : Sending → List Frame
-queued nothing = []
-queued (sends m) = layout m ∷ []
+use Rattle.step.specs.Step.{Sending, nothing, sends, Act, Outcome, first, call, frameCall, told}
+use Rattle.link.specs.Link.{Frame, Turn, refuses, acts, turn, turned, queued}
 
 -- a call that is refused, or comes to this end and these frames
 abbrev pub Comes : {E : Type 0} → Turn E → E → List Frame → Type 0
@@ -49,17 +46,30 @@ turn-sent end m reply = rw (ne-eqb (length (layout m)) 0 (omega (arith, begins m
 
 -- an end of the link, made of an end's record and what it is lent to change
 module _ {H B E : Type 0} (end : H → B → E) where
-  -- what a call leaves, as the link sees it
-  abbrev pub turned : Outcome H B → Turn E
-  turned o = turn (end (o .end) (o .lent)) (o .answer) (o .reply)
-
   abbrev pub Becomes : Turn E → Act H B → Type 0
   Becomes t a = Comes t (end (a .end) (a .lent)) (queued (a .sending))
 
-  tells : (h : H) (b : B) (reply : List ℕ) (out : Sending) → turned (told h b reply out) ≡ acts (end h b) (queued out)
+  tells : (h : H) (b : B) (reply : List ℕ) (out : Sending) → turned end (told h b reply out) ≡ acts (end h b) (queued out)
   tells h b reply nothing = refl
   tells h b reply (sends m) = turn-sent (end h b) m reply
 
-  pub called : (n : ℕ) (h : H) (b : B) (reply : List ℕ) (a : Act H B) → Becomes (turned (call n h b reply a)) a
+  pub called : (n : ℕ) (h : H) (b : B) (reply : List ℕ) (a : Act H B) → Becomes (turned end (call n h b reply a)) a
   called n h b reply a =
-      by-cases (λ (o : Outcome H B). Becomes (turned o) a) (eqb n 0) (λ _. inr (tells (a .end) (a .lent) reply (a .sending))) (λ e. inl (rw e))
+      by-cases (λ (o : Outcome H B). Becomes (turned end o) a) (eqb n 0) (λ _. inr (tells (a .end) (a .lent) reply (a .sending))) (λ e. inl (rw e))
+
+  -- a call to which no refusal applies is that act, and is not refused
+  pub told-as : (n : ℕ) (h : H) (b : B) (reply : List ℕ) (a : Act H B) → n ≡ 0
+      → turned end (call n h b reply a) ≡ acts (end (a .end) (a .lent)) (queued (a .sending))
+  told-as n h b reply a e = rw e (tells (a .end) (a .lent) reply (a .sending))
+
+  pub unrefused : (n : ℕ) (h : H) (b : B) (reply : List ℕ) (a : Act H B) → n ≡ 0 → turned end (call n h b reply a) ≡ refuses → ⊥
+  unrefused n h b reply a e q =
+      let x : _≡_ {A = Turn E} (acts (end (a .end) (a .lent)) (queued (a .sending))) refuses = sym (told-as n h b reply a e) ∙ q in
+      let z : _≡_ {A = ℕ} 0 1 = cc in omega arith
+
+  -- nor is one on a frame to which none applies and which is accepted
+  pub frame-unrefused : (n : ℕ) (frame : Frame) (h : H) (b : B) (reply : List ℕ) (react : Fields → Act H B) → n ≡ 0 → fields frame .refusal ≡ 0
+      → turned end (frameCall n frame h b reply react) ≡ refuses → ⊥
+  unfolding first
+  frame-unrefused n frame h b reply react e r =
+      unrefused (first (n ∷ fields frame .refusal ∷ [])) h b reply (react (fields frame)) (rw (e, r))
