@@ -1,8 +1,8 @@
 -- The claim of a dump: what every run from fresh ends keeps, and what it says of the dump buffer.
-use Prim.Native.Nat.{ℕ, _+_, _<_, _≤_}
+use Prim.Native.Nat.{ℕ, _<_, _≤_}
 use mathlib.Core.Path.{_≡_, refl, sym, ap, subst, _∙_}
 use mathlib.Core.Bool.{true}
-use mathlib.Core.List.{List, _∷_}
+use mathlib.Core.List.{List}
 use native.Mathlib.Omega.{arith}
 use native.Mathlib.Decide.{ℕ-discrete}
 use lib.ListN.{length, length-append, length-drop, getElem?}
@@ -15,7 +15,7 @@ use Rattle.machine_next.specs.Next as machine
 use Rattle.dump_next.specs.declared.Settings.{Settings as DumpSettings}
 use Rattle.dump_next.specs.Next as next
 use Rattle.dump.specs.Dump as dump
-use Rattle.link.specs.Link.{Frame, World, Event}
+use Rattle.link.specs.Link.{World, Event}
 use Rattle.link.specs.LinkLaws.{always}
 use Rattle.link.specs.CallLaws as call
 use Rattle.link.specs.AloneLaws.{Alone}
@@ -75,7 +75,7 @@ module _
         memory-is = reached .end .held;
         buffer-is = reached .host .held;
         size = rw (reached .host .held) (simp (length-append, length-drop, length-bytesFrom) (omega arith));
-        filled = n .filled;
+        filled = omega (arith, n .filled);
         finished = λ v. n .finished v .0;
         full = λ e. full (w .host .session .verdict) (w .host .session .filled) (n .unfinished) e;
         counted = omega (arith, counts .1);
