@@ -14,13 +14,13 @@ use Rattle.machine_next.specs.Next as machine
 use Rattle.dump_next.specs.declared.Settings.{Settings as DumpSettings}
 use Rattle.dump.specs.Dump as dump
 use Rattle.link.specs.Link.{Event, own, handToMachine, handToHost, hostTimer, run}
-use Rattle.link_dump.specs.Theorem.{after}
+use Rattle.link_dump.specs.Model.{after}
 
 -- 3 bytes from address 1, at most 2 at a time, one repeat; a memory of 3 bytes
-abbrev s : DumpSettings
+abbrev pub s : DumpSettings
 s = record { length = 3; address = 1; «request_bytes» = 2; repeats = 1 }
 
-abbrev ms : MachineSettings
+abbrev pub ms : MachineSettings
 ms = record { «reply_bytes» = 1495; device = 0; processor = 0 }
 
 accepted : (dump.settled s 3 ≡ true) × (machine.refusal ms machine.offering 3 1500 ≡ 0)

@@ -2,6 +2,7 @@
 use Prim.Native.Nat.{ℕ, zero, suc}
 use mathlib.Core.Path.{_≡_, refl, sym, subst, _∙_}
 use mathlib.Core.List.{List, [], _∷_, _++_}
+use native.Mathlib.Omega.{arith}
 use lib.ListN.{take}
 use Rattle.link.specs.Link.{Frame, Turn, refuses, acts, World, Ends, Event, own, further, handToMachine, keepToMachine, dropToMachine, handToHost, keepToHost, dropToHost, hostTimer, machineTimer, Own, machineTurn, hostTurn, withToMachine, withToHost, handedToMachine, keptToMachine, droppedToMachine, handedToHost, keptToHost, droppedToHost, ownStep, step, run}
 use Rattle.link.specs.Bounded.{within, runWithin, Alike}
@@ -167,7 +168,7 @@ module _ {H M : Type 0} (ends : Ends H M ⊥) where
 
   -- a queue that loses its last frames stays beside the link's
   beside-within : (n : ℕ) {w v : World H M} → Beside w v → Beside w (within n v)
-  beside-within n b = record { alike = b .alike; toMachine = cut n (b .toMachine); toHost = cut n (b .toHost) }
+  beside-within n b = record { alike = (b .alike .0, b .alike .1, omega (arith, b .alike .2)); toMachine = cut n (b .toMachine); toHost = cut n (b .toHost) }
 
   beside-run : (n : ℕ) (w v : World H M) (es : List (Event ⊥)) → Beside w v → Comes w (runWithin n ends v es)
   unfolding runWithin

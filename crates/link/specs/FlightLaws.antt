@@ -4,7 +4,8 @@ use mathlib.Core.Path.{_≡_, refl}
 use mathlib.Core.List.{List, [], _∷_, _++_}
 use native.Mathlib.Nat.{le-refl, le-trans, lt-of-lt-of-le, le-of-suc-le-suc}
 use native.Mathlib.Numerals.{add-one, lt-add-one}
-use Rattle.link.specs.Link.{Frame, Lost, here, there}
+use Rattle.link.specs.Link.{Frame}
+use Rattle.link.specs.LinkLaws.{Lost, here, there}
 
 module _ (f : ℕ → Frame) where
   -- from lo on, below hi

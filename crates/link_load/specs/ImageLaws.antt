@@ -7,6 +7,7 @@ use native.Mathlib.Omega.{arith}
 use lib.ListN.{length, length-append}
 use lib.Dec.{eqb}
 use Rattle.octets.specs.Number.{Octets, low}
+use Rattle.octets.specs.TestLaws.{by-cases}
 use Rattle.memory.specs.Memory.{fits, laid}
 use Rattle.memory.specs.Laws.{fits-inside, length-laid, laid-again}
 use Rattle.message.specs.Message.{Message, memoryLoadTransfer, memoryLoad}
@@ -20,8 +21,9 @@ use Rattle.machine_next.specs.declared.Settings.{Settings}
 use Rattle.machine_next.specs.Next.{loading, started, after, byNumber, takenAs, onLoad, react}
 use Rattle.machine.specs.Machine.{machineFrame}
 use Rattle.load.specs.Load.{segmentMessage}
-use Rattle.link.specs.MachineEnd.{MachineAct, machineTurned, Becomes, on-frame}
-use Rattle.link_load.specs.Frames.{Frames}
+use Rattle.link.specs.MachineEnd.{machineTurned}
+use Rattle.link.specs.MachineEndLaws.{MachineAct, Becomes, on-frame}
+use Rattle.link_load.specs.FramesLaws.{Frames}
 
 -- both frames of a segment are at most 1,500 bytes long
 last-short : (n a : ℕ) (d : List ℕ) (t : ℕ) → length d ≤ 1490 → length (layout (memoryLoadTransfer n a d t)) ≤ 1500
@@ -50,25 +52,34 @@ module _ (S : ℕ) (ms : Settings) (file : List ℕ) (size : ℕ) (ok : cutRefus
   abbrev fitted : ℕ → Machine
   fitted i = pick (eqb (i + 1) N) (started t) (loading (after (i % 256)) 0)
 
+  -- what a segment's frame holds
+  module _ (i : ℕ) (h : i < N) where
+    held : Held S (length file) (segment S (regions file) i)
+    held = file-segment file S ok i h
+
+    short : length (bytes i) ≤ 1490
+    short = omega (arith, length-segment file S ok i h, held, ready file S ok)
+
+    -- it is read
+    pub segment-read : fields (layout (segmentMessage file S i)) .refusal ≡ 0
+    segment-read =
+        by-cases (λ (m : Message). fields (layout m) .refusal ≡ 0) (eqb (i + 1) N)
+        (λ _. rw (load-transfer-fields (i % 256) (address i) (bytes i) t (omega (arith, held)) (transfer-bound file o) (last-short (i % 256) (address i) (bytes i) t short)))
+        (λ _. rw (load-fields (i % 256) (address i) (bytes i) (omega (arith, held)) (other-short (i % 256) (address i) (bytes i) short)))
+
   -- codes 0 and 2 are both loads
   react-segment : (i : ℕ) (m : Machine) (memory : List ℕ) → i < N
       → react ms m (fields (layout (segmentMessage file S i))) (layout (segmentMessage file S i)) memory ≡ onLoad m (i % 256) (address i) (bytes i) (fitted i) memory
   react-segment i m memory h = go (eqb (i + 1) N)
     where
-      held : Held S (length file) (segment S (regions file) i)
-      held = file-segment file S ok i h
-
-      short : length (bytes i) ≤ 1490
-      short = omega (arith, length-segment file S ok i h, held, ready file S ok)
-
       is : Bool → Message
       is b = pick b (memoryLoadTransfer (i % 256) (address i) (bytes i) t) (memoryLoad (i % 256) (address i) (bytes i))
 
       go : (b : Bool) → react ms m (fields (layout (is b))) (layout (is b)) memory ≡ onLoad m (i % 256) (address i) (bytes i) (pick b (started t) (loading (after (i % 256)) 0)) memory
       go true =
-          rw (load-transfer-fields (i % 256) (address i) (bytes i) t (omega (arith, held)) (transfer-bound file o) (last-short (i % 256) (address i) (bytes i) t short), load-transfer-part (i % 256) (address i) (bytes i) t)
+          rw (load-transfer-fields (i % 256) (address i) (bytes i) t (omega (arith, held i h)) (transfer-bound file o) (last-short (i % 256) (address i) (bytes i) t (short i h)), load-transfer-part (i % 256) (address i) (bytes i) t)
       go false =
-          rw (load-fields (i % 256) (address i) (bytes i) (omega (arith, held)) (other-short (i % 256) (address i) (bytes i) short), load-part (i % 256) (address i) (bytes i))
+          rw (load-fields (i % 256) (address i) (bytes i) (omega (arith, held i h)) (other-short (i % 256) (address i) (bytes i) (short i h)), load-part (i % 256) (address i) (bytes i))
 
   -- what a machine does with segment i, in a memory of this size
   abbrev taken : ℕ → Machine → List ℕ → MachineAct

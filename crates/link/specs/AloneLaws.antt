@@ -5,7 +5,8 @@ use mathlib.Core.Path.{_≡_}
 use mathlib.Core.List.{List, _∷_}
 use native.Mathlib.Omega.{arith}
 use lib.ListN.{length}
-use Rattle.link.specs.Link.{Frame, Turn, refuses, acts, Ends, World, machineTurn, hostTurn, Closed}
+use Rattle.link.specs.Link.{Frame, Turn, refuses, acts, Ends, World, machineTurn, hostTurn}
+use Rattle.link.specs.LinkLaws.{Closed}
 
 module _ {H : Type 0} (Good : H → Type 0) (sent : H → ℕ) where
   -- a call that is refused, or leaves a good record that counts the frames it returns

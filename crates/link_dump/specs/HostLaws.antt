@@ -20,8 +20,8 @@ use Rattle.dump_next.specs.declared.Settings.{Settings}
 use Rattle.dump_next.specs.declared.Next.{Next}
 use Rattle.dump_next.specs.Next as next
 use Rattle.dump.specs.Dump as dump
-use Rattle.link.specs.Link.{Frame, Turn, refuses, acts}
-use Rattle.link.specs.Call.{queued, called, came}
+use Rattle.link.specs.Link.{Frame, Turn, refuses, acts, queued}
+use Rattle.link.specs.CallLaws.{called, came}
 use Rattle.link_dump.specs.Model.{Host, hostEnd, hostTurned}
 
 -- The numbers of a record: waiting, bytes filled, replies taken, repeats, verdict, frames sent; and the dump buffer.

@@ -9,17 +9,18 @@ use lib.ListN.{length}
 use lib.Dec.{eqb}
 use borrow.Author.Tests.{eq-eqb, ne-eqb, eqb-false}
 use Rattle.octets.specs.TestLaws.{by-cases}
-use Rattle.message.specs.Message.{Message, requestProgram, requestLoad}
+use Rattle.message.specs.Message.{Message, requestLoad}
 use Rattle.message.specs.Write.{layout}
 use Rattle.step.specs.Step.{nothing, sends, acts}
 use Rattle.machine_next.specs.declared.Machine.{Machine}
 use Rattle.machine_next.specs.declared.Settings.{Settings}
-use Rattle.machine_next.specs.Next.{requesting, loading, after, byNumber, takenAs, onTimer}
+use Rattle.machine_next.specs.Next.{requesting, loading, after, byNumber, takenAs, asksLoad, onTimer}
 use Rattle.machine_timer.specs.Timer.{machineTimer}
 use Rattle.machine.specs.Machine.{machineFrame}
 use Rattle.link.specs.Link.{Frame, Turn, World}
-use Rattle.link.specs.Numbered.{Transfer, Receiver}
-use Rattle.link.specs.MachineEnd.{End, MachineAct, machineTurned, Becomes, endsWith, on-timer}
+use Rattle.link.specs.NumberedLaws.{Transfer, Receiver}
+use Rattle.link.specs.MachineEnd.{End, machineTurned, endsWith}
+use Rattle.link.specs.MachineEndLaws.{MachineAct, Becomes, on-timer}
 
 -- How many frames; the length of memory; each one's message, whether it fits, and the memory with it laid over; the machine after the last.
 pub record Frames (ms : Settings) : Type 0 where
@@ -59,7 +60,7 @@ module _ {ms : Settings} (fr : Frames ms) (old : List ℕ) where
 
   -- the request (0), and the answer to frame k
   abbrev pub said : ℕ → Message
-  said zero = requestProgram (ms .device) 1 2 255 [] (ms .processor) []
+  said zero = asksLoad ms
   said (suc k) = requestLoad (after (k % 256)) (pick (fr .fit k) 0 1)
 
   -- the frames both ways, beside any host

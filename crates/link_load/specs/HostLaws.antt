@@ -8,18 +8,20 @@ use lib.Dec.{eqb, ltb}
 use borrow.Author.Tests.{eqb-true, eqb-false, ltb-true, ltb-false}
 use Rattle.octets.specs.TestLaws.{by-cases, both}
 use Rattle.message.specs.declared.Fields.{Fields}
-use Rattle.message.specs.Message.{requestProgram, requestLoad}
+use Rattle.message.specs.Message.{requestLoad}
 use Rattle.message.specs.Read.{fields}
 use Rattle.message.specs.Write.{layout}
 use Rattle.message.specs.Laws.{request-load-fields, request-program-fields}
 use Rattle.step.specs.Step.{first}
+use Rattle.machine_next.specs.declared.Settings.{Settings as MachineSettings}
+use Rattle.machine_next.specs.Next.{asksLoad}
 use Rattle.load_next.specs.declared.Session.{Session}
 use Rattle.load_next.specs.declared.Settings.{Settings}
 use Rattle.load_next.specs.declared.Next.{Next}
 use Rattle.load_next.specs.Next as next
 use Rattle.load.specs.Load as load
-use Rattle.link.specs.Link.{Frame, Turn, refuses, acts}
-use Rattle.link.specs.Call.{queued, called, came}
+use Rattle.link.specs.Link.{Frame, Turn, refuses, acts, queued}
+use Rattle.link.specs.CallLaws.{called, came}
 use Rattle.link_load.specs.Model.{hostEnd, hostTurned}
 
 -- The numbers of a record: waiting, position, repeats, verdict, frames sent.
@@ -44,9 +46,9 @@ answer-says n e number error a =
     let r = request-load-fields n e in
     (sym (ap (λ (f : Fields). f .number) r) ∙ a .1, sym (ap (λ (f : Fields). f .error) r) ∙ a .2)
 
-pub no-answer : (device processor number error : ℕ) → Answer (layout (requestProgram device 1 2 255 [] processor [])) number error → ⊥
-no-answer device processor number error a =
-    let code = ap (λ (f : Fields). f .code) (request-program-fields device processor) in omega (arith, a .0)
+pub no-answer : (ms : MachineSettings) (number error : ℕ) → Answer (layout (asksLoad ms)) number error → ⊥
+no-answer ms number error a =
+    let code = ap (λ (f : Fields). f .code) (request-program-fields (ms .device) (ms .processor)) in omega (arith, a .0)
 
 -- N frames F, each repeated at most R times
 module _ (N R : ℕ) (F : ℕ → Frame) where

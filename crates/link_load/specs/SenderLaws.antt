@@ -10,13 +10,13 @@ use Rattle.machine_next.specs.Next.{after}
 use Rattle.load_next.specs.declared.Session.{Session}
 use Rattle.load_next.specs.Next as next
 use Rattle.link.specs.Link.{Frame, Turn, Ends}
-use Rattle.link.specs.Numbered as numbered
-use Rattle.link.specs.Numbered.{Transfer, Moved, stays, advances, finishes, Ticked, still, resends, Sender}
+use Rattle.link.specs.NumberedLaws as numbered
+use Rattle.link.specs.NumberedLaws.{Transfer, Moved, stays, advances, finishes, Ticked, still, resends, Sender}
 use Rattle.link.specs.MachineEnd.{End}
-use Rattle.link_load.specs.Host as host
-use Rattle.link_load.specs.Host.{Now, Sending, Answer, answer-says, no-answer, Heard, Timed}
-use Rattle.link_load.specs.Alone.{Good, Kept, on-heard, on-timed}
-use Rattle.link_load.specs.Frames.{Frames, said, transfer}
+use Rattle.link_load.specs.HostLaws as host
+use Rattle.link_load.specs.HostLaws.{Now, Sending, Answer, answer-says, no-answer, Heard, Timed}
+use Rattle.link_load.specs.AloneLaws.{Good, Kept, on-heard, on-timed}
+use Rattle.link_load.specs.FramesLaws.{Frames, said, transfer}
 
 -- A good record at stage p: 0 while it waits, then one more than its position; a frame that was rejected does not fit.
 pub record Stage (N R : ℕ) (fit : ℕ → Bool) (p : ℕ) (h : Session) : Type 0 where
@@ -35,7 +35,7 @@ module _ {ms : MachineSettings} (fr : Frames ms) (R : ℕ) (old : List ℕ) wher
   -- what was said as number k, if it is an answer
   said-answer : (k number error : ℕ) → Answer (layout (said fr old k)) number error
       → (j : ℕ) × (k ≡ j + 1) × (after (j % 256) ≡ number) × (pick (fr .fit j) 0 1 ≡ error)
-  said-answer zero number error a = absurd (no-answer (ms .device) (ms .processor) number error a)
+  said-answer zero number error a = absurd (no-answer ms number error a)
   said-answer (suc j) number error a =
       let z = answer-says (after (j % 256)) (pick (fr .fit j) 0 1) number error a in (j, omega arith, z .0, z .1)
 

@@ -1,14 +1,16 @@
 -- A buffer that fills with the bytes of memory from an address on.
 use Prim.Native.Nat.{ℕ, _+_, _-_, _<_, _≤_}
-use mathlib.Core.Path.{_≡_, ap, subst, _∙_}
+use mathlib.Core.Path.{_≡_, ap, sym, subst, _∙_}
 use mathlib.Core.List.{List, _++_, append-assoc, append-nil}
 use native.Mathlib.Omega.{arith}
-use lib.ListN.{length, getD, drop, drop-of-length-le, List·getD-append}
+use mathlib.Core.Option.{some}
+use lib.ListN.{length, getD, drop, length-append, drop-of-length-le, List·getD-append, List·getD-eq-default}
 use lib.Seq.{take-at, drop-append-add, drop-drop, getD-append-add, getD-drop}
 use Rattle.octets.specs.Lay.{over}
 use Rattle.memory.specs.Memory.{bytesFrom}
 use Rattle.memory.specs.Laws.{length-bytesFrom, getD-bytesFrom, bytesFrom-joined}
-use Rattle.link_dump.specs.Model.{filledWith}
+use Rattle.link.specs.ByteLaws.{is-there}
+use Rattle.link_dump.specs.Model.{filledWith, Copied}
 
 -- byte k of two lists on end, where it is one of the second
 behind : (xs ys : List ℕ) (k : ℕ) → length xs ≤ k → getD (xs ++ ys) k 0 ≡ getD ys (k - length xs) 0
@@ -29,7 +31,7 @@ laid-next memory a m bytes buffer e =
 
 -- a filled buffer byte by byte: memory's in the filled part, its own behind it
 module _ (memory : List ℕ) (a n : ℕ) (buffer : List ℕ) where
-  pub in-filled : (k : ℕ) → k < n → getD (filledWith memory a n buffer) k 0 ≡ getD memory (a + k) 0
+  in-filled : (k : ℕ) → k < n → getD (filledWith memory a n buffer) k 0 ≡ getD memory (a + k) 0
   in-filled k h =
       let size = length-bytesFrom memory a n in
       List·getD-append (bytesFrom memory a n) (drop n buffer) 0 k (omega arith) ∙ getD-bytesFrom memory a n k h
@@ -40,6 +42,15 @@ module _ (memory : List ℕ) (a n : ℕ) (buffer : List ℕ) where
       let size = length-bytesFrom memory a n in
       let at : n + (k - length w) ≡ k = omega arith in
       behind w (drop n buffer) k (omega arith) ∙ (getD-drop n buffer (k - length w) 0 ∙ ap (λ (i : ℕ). getD buffer i 0) at)
+
+  pub copied : (k : ℕ) → k < n → Copied memory a (filledWith memory a n buffer) k
+  copied k h =
+      let size = length-bytesFrom memory a n in
+      let here = is-there 0 (filledWith memory a n buffer) k (simp length-append (omega arith)) in
+      record {
+        inside = λ l. here ∙ ap some (in-filled k h) ∙ sym (is-there 0 memory (a + k) (omega (arith, l)));
+        beyond = λ l. here ∙ ap some (in-filled k h ∙ List·getD-eq-default memory 0 (omega (arith, l)));
+      }
 
   pub filled-whole : length buffer ≤ n → filledWith memory a n buffer ≡ bytesFrom memory a n
   filled-whole h = rw (drop-of-length-le buffer h, append-nil)

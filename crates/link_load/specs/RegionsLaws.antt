@@ -3,10 +3,11 @@ use Prim.Native.Nat.{ℕ, zero, suc, _+_, _≤_, _<_}
 use mathlib.Core.Path.{_≡_, refl, ap, sym, _∙_}
 use mathlib.Core.List.{List, [], _∷_}
 use mathlib.Core.Logic.{_⊎_, ⊎-elim}
+use mathlib.Core.Option.{some, Option·some-injective}
 use native.Mathlib.Omega.{arith}
 use native.Mathlib.Nat.{add-zero, add-suc}
-use lib.ListN.{length, drop, getD, take-append-drop, length-append}
-use lib.Seq.{getD-take, getD-drop}
+use lib.ListN.{length, take, drop, getD, getElem?, take-append-drop, length-append, length-take, length-drop}
+use lib.Seq.{getD-take, getD-drop, ext-getD}
 use Rattle.memory.specs.Memory.{laid}
 use Rattle.memory.specs.Laws.{length-laid, laid-joined, laid-within, laid-before, laid-behind}
 use Rattle.image.specs.declared.Region.{Region}
@@ -93,6 +94,12 @@ module _ (file : List ℕ) (S : ℕ) where
         let c = accepted-cons directory end r rs e in
         (region-fits end r n (c .0) (here r rs n f), all-fit (ending r) rs n (c .1) (later r rs n f))
 
+    pub fits-at : (rs : List Region) (n k : ℕ) → AllFit rs n → k < length rs → ending (getD rs k nowhere) ≤ n
+    unfolding AllFit
+    fits-at [] n k f l = absurd (omega (arith, l))
+    fits-at (r ∷ rs) n zero f l = f .0
+    fits-at (r ∷ rs) n (suc k) f l = fits-at rs n k (f .1) (omega (arith, l))
+
     -- the segments laid over a memory are the regions laid over it
     pub segments-regions : (end : ℕ) (rs : List Region) (m : List ℕ) → entriesRefusal directory end rs ≡ 0 → SegmentsFit rs (length m)
         → segmentsOver rs (many S rs) m ≡ regionsOver rs m
@@ -137,7 +144,7 @@ module _ (file : List ℕ) (S : ℕ) where
     -- a byte of a region is the file's
     pub inside-region : (end : ℕ) (rs : List Region) (m : List ℕ) (k x : ℕ) → entriesRefusal directory end rs ≡ 0 → AllFit rs (length m)
         → k < length rs → x < getD rs k nowhere .length
-        → getD (regionsOver rs m) (getD rs k nowhere .address + x) 0 ≡ getD file (getD rs k nowhere .place + x) 0
+        → getD (regionsOver rs m) (getD rs k nowhere .address + x) 0 ≡ getD (bytes file (getD rs k nowhere)) x 0
     unfolding regionsOver AllFit
     inside-region end [] m k x e f l b = absurd (omega (arith, l))
     inside-region end (r ∷ rs) m zero x e f l b =
@@ -145,7 +152,6 @@ module _ (file : List ℕ) (S : ℕ) where
         let n = length-bytes file r (omega (arith, c .0 .within)) in
         before-all (ending r) rs (laid (bytes file r) (r .address) m) (r .address + x) (c .1) (rw (laid-size end r m (c .0) (f .0)) (f .1)) (omega arith)
         ∙ laid-within (bytes file r) (r .address) m (omega (arith, n, f .0)) x (omega (arith, n))
-        ∙ getD-take (r .length) (drop (r .place) file) x 0 b ∙ getD-drop (r .place) file x 0
     inside-region end (r ∷ rs) m (suc k) x e f l b =
         let c = accepted-cons directory end r rs e in
         inside-region (ending r) rs (laid (bytes file r) (r .address) m) k x (c .1) (rw (laid-size end r m (c .0) (f .0)) (f .1)) (omega (arith, l)) b
@@ -162,3 +168,17 @@ module _ (file : List ℕ) (S : ℕ) where
         outside-regions (ending r) rs (laid (bytes file r) (r .address) m) a (c .1) (rw (laid-size end r m (c .0) (f .0)) (f .1)) (λ k l. g (suc k) (omega arith))
         ∙ ⊎-elim (λ l. laid-before (bytes file r) (r .address) m (omega (arith, n, f .0)) a l)
         (λ l. laid-behind (bytes file r) (r .address) m (omega (arith, n, f .0)) a (omega (arith, n, l))) (g 0 (omega arith))
+
+-- ---- with no default for what is beyond a list's end
+-- a stretch that has these bytes one by one has them together
+pub stretch : (xs ys : List ℕ) (a : ℕ) → a + length ys ≤ length xs → ((x : ℕ) → x < length ys → getD xs (a + x) 0 ≡ getD ys x 0) → take (length ys) (drop a xs) ≡ ys
+stretch xs ys a h f =
+    let size : length (take (length ys) (drop a xs)) ≡ length ys = simp (length-take, length-drop) (omega arith) in
+    ext-getD 0 (take (length ys) (drop a xs)) ys size
+    (λ i l. getD-take (length ys) (drop a xs) i 0 (omega arith) ∙ getD-drop a xs i 0 ∙ f i (omega arith))
+
+-- an entry that is there
+pub there : (rs : List Region) (k : ℕ) (r : Region) → getElem? rs k ≡ some r → (k < length rs) × (getD rs k nowhere ≡ r)
+there [] k r e = let z : _≡_ {A = ℕ} 0 1 = cc in absurd (omega arith)
+there (x ∷ rs) zero r e = (omega arith, Option·some-injective x r e)
+there (x ∷ rs) (suc k) r e = let z = there rs k r e in (omega (arith, z .0), z .1)

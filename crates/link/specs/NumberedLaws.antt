@@ -4,14 +4,15 @@ use Prim.Native.Nat.{ℕ, zero, suc, _+_, _-_, _≤_, _<_, min}
 use mathlib.Core.Path.{_≡_, refl, sym, subst}
 use mathlib.Core.Bool.{Bool, true, false}
 use mathlib.Core.List.{List, [], _∷_, _++_, append-nil}
-use mathlib.Core.Logic.{_⊎_, ⊎-elim}
+use mathlib.Core.Logic.{_⊎_, inl, inr, ⊎-elim}
 use native.Mathlib.Omega.{arith}
 use lib.Dec.{eqb}
 use borrow.Author.Tests.{eqb-true, eqb-false}
-use Rattle.link.specs.Link.{Frame, Turn, refuses, acts, Ends, World, machineTurn, hostTurn, withToMachine, withToHost, Closed}
-use Rattle.link.specs.Call as call
-use Rattle.link.specs.Call.{Comes}
-use Rattle.link.specs.Flight.{Flight, none, wider, then, without, First, first, Line, clean, wider-line, then-line, without-line, Front, front, numbered, passed}
+use Rattle.link.specs.Link.{Frame, Turn, refuses, acts, Ends, World, machineTurn, hostTurn, withToMachine, withToHost}
+use Rattle.link.specs.LinkLaws.{Closed}
+use Rattle.link.specs.CallLaws as call
+use Rattle.link.specs.CallLaws.{Comes}
+use Rattle.link.specs.FlightLaws.{Flight, none, wider, then, without, First, first, Line, clean, wider-line, then-line, without-line, Front, front, numbered, passed}
 
 -- A transfer: how many frames, and which of them fit; frame i; the request (0) and the answer to frame i (i + 1); the stages of the sender
 -- (0 while it waits, then one more than its position); the receiver after m answers; the frames that it passes by while it has answered
@@ -210,6 +211,17 @@ module _ {H M : Type 0} (t : Transfer H M) where
           subst (λ (y : Frame). Inv (hostTurn w (f ∷ q) (ends .hostFrame (w .host) y b))) (sym (x .frame-is))
           (on-moved (x .number) (ends .hostFrame (w .host) (t .up (x .number)) b) (f ∷ q) (x .below)
           (s .heeds p (w .host) (x .number) b (h .stage) (x .from) (omega (arith, x .below, h .lower))) queue (x .whole))
+
+    -- ---- which frame is the first of a queue
+    pub first-down : (w : World H M) (f : Frame) (q : List Frame) → Inv w → w .toMachine ≡ f ∷ q → (i : ℕ) × (f ≡ t .down i) × ((i < t .many) ⊎ t .Passed i)
+    first-down w f q i e = go (front (t .down) (t .Passed) (subst (Down (i .0) (i .1)) e (i .2 .down)))
+      where
+        go : Front (t .down) (t .Passed) (i .0) (i .0 - 1) (min (i .1) (t .many)) f q → (j : ℕ) × (f ≡ t .down j) × ((j < t .many) ⊎ t .Passed j)
+        go (numbered x) = (x .number, x .frame-is, inl (omega (arith, x .below)))
+        go (passed j s z p) = (j, s, inr p)
+
+    pub first-up : (w : World H M) (f : Frame) (q : List Frame) → Inv w → w .toHost ≡ f ∷ q → (k : ℕ) × (f ≡ t .up k)
+    first-up w f q i e = let x = first (t .up) (subst (Up (i .0) (i .1)) e (i .2 .up)) in (x .number, x .frame-is)
 
     -- ---- every run keeps the invariant
     pub closed : Sender → Receiver → Closed ends Inv

@@ -12,7 +12,7 @@ use Rattle.octets.specs.TestLaws.{by-cases}
 use Rattle.memory.specs.Memory.{bytesFrom}
 use Rattle.memory.specs.Laws.{length-bytesFrom}
 use Rattle.message.specs.declared.Fields.{Fields}
-use Rattle.message.specs.Message.{Message, requestDump, requestDumpService, dumpData, dumpComplete}
+use Rattle.message.specs.Message.{Message, requestDump, dumpData, dumpComplete}
 use Rattle.message.specs.Read.{fields}
 use Rattle.message.specs.Read.{part as partOf}
 use Rattle.message.specs.Write.{layout}
@@ -23,16 +23,18 @@ use Rattle.machine_next.specs.Next as machine
 use Rattle.machine_next.specs.Laws.{in-range}
 use Rattle.dump_next.specs.declared.Settings.{Settings as DumpSettings}
 use Rattle.dump.specs.Dump as dump
-use Rattle.link.specs.Link.{Frame, Turn, acts, World, Closed}
-use Rattle.link.specs.Each as each
-use Rattle.link.specs.Each.{Returns, Holds}
-use Rattle.link.specs.Call.{queued, came}
-use Rattle.link.specs.MachineEnd.{End, MachineAct, machineEnd, Becomes, on-frame, on-timer}
+use Rattle.link.specs.Link.{Frame, Turn, acts, queued, World}
+use Rattle.link.specs.LinkLaws.{Closed}
+use Rattle.link.specs.EachLaws as each
+use Rattle.link.specs.EachLaws.{Returns, Holds}
+use Rattle.link.specs.CallLaws.{came}
+use Rattle.link.specs.MachineEnd.{End, machineEnd}
+use Rattle.link.specs.MachineEndLaws.{MachineAct, Becomes, on-frame, on-timer}
 use Rattle.link_dump.specs.Model.{Host, dumpEnds, freshWorld, filledWith}
-use Rattle.link_dump.specs.Filled.{laid-next}
-use Rattle.link_dump.specs.Host.{Now, Data, missing, ask, Reply, Heard, refused, ignored, begins, asks, finishes, Timed, repeats, givesUp, heard, timed}
-use Rattle.link_dump.specs.Alone as alone
-use Rattle.link_dump.specs.Alone.{Good, Kept, fresh}
+use Rattle.link_dump.specs.FilledLaws.{laid-next}
+use Rattle.link_dump.specs.HostLaws.{Now, Data, missing, ask, Reply, Heard, refused, ignored, begins, asks, finishes, Timed, repeats, givesUp, heard, timed}
+use Rattle.link_dump.specs.AloneLaws as alone
+use Rattle.link_dump.specs.AloneLaws.{Good, Kept, fresh}
 
 -- ---- frames on their way
 -- a frame of such a message
@@ -46,7 +48,7 @@ pub data Asks : Message → Type 0 where
 
 -- What goes to the host: the offer, and bytes that are memory from their address on.
 pub data Tells (memory : List ℕ) : Message → Type 0 where
-  offer : {device size : ℕ} → size < 256 ^ 4 → Tells memory (requestDumpService device 1 size 0 [])
+  offer : (ms : MachineSettings) (size : ℕ) → size < 256 ^ 4 → Tells memory (machine.asksDump ms size)
   bytes : {a : ℕ} {d : List ℕ} → a < 256 ^ 4 → length d ≤ 1495 → d ≡ bytesFrom memory a (length d) → Tells memory (dumpData a d)
 
 short : (a : ℕ) (d : List ℕ) → length d ≤ 1495 → length (layout (dumpData a d)) ≤ 1500
@@ -54,22 +56,35 @@ unfolding layout low
 short a d k = omega arith
 
 -- an offer is no data; what a frame of data says
-no-data : (device size : ℕ) → size < 256 ^ 4 → fields (layout (requestDumpService device 1 size 0 [])) .code ≡ 14 → ⊥
+no-data : (ms : MachineSettings) (size : ℕ) → size < 256 ^ 4 → fields (layout (machine.asksDump ms size)) .code ≡ 14 → ⊥
 unfolding layout low
-no-data device size h e =
-    let code = ap (λ (f : Fields). f .code) (request-dump-service-fields device 1 size 0 [] h (omega arith)) in omega arith
+no-data ms size h e =
+    let code = ap (λ (f : Fields). f .code) (request-dump-service-fields (ms .device) 1 size 0 [] h (omega arith)) in omega arith
 
 says-data : (a : ℕ) (d : List ℕ) → a < 256 ^ 4 → length d ≤ 1495 → (fields (layout (dumpData a d)) .address ≡ a) × (partOf (layout (dumpData a d)) (fields (layout (dumpData a d))) ≡ d)
 says-data a d h k = (rw (dump-data-fields a d h (short a d k)), rw (dump-data-fields a d h (short a d k)) (dump-data-part a d))
 
 -- so bytes that reach the host are memory's
 told : (memory : List ℕ) (m : Message) (a : ℕ) (d : List ℕ) → Tells memory m → Data (layout m) a d → d ≡ bytesFrom memory a (length d)
-told memory m a d (offer {device} {size} h) q = absurd (no-data device size h (q .0))
+told memory m a d (offer ms size h) q = absurd (no-data ms size h (q .0))
 told memory m a d (bytes {a = x} {d = y} h k v) q =
     let z = says-data x y h k in
     let same : y ≡ d = sym (z .1) ∙ q .2 in
     let at : x ≡ a = sym (z .0) ∙ q .1 in
     rw (same, at) at v
+
+-- every such frame is read
+pub asks-read : (m : Message) → Asks m → fields (layout m) .refusal ≡ 0
+asks-read m (part {a} {n} k l) = rw (request-dump-fields a n k l)
+asks-read m complete = rw dump-complete-fields
+
+pub tells-read : (memory : List ℕ) (m : Message) → Tells memory m → fields (layout m) .refusal ≡ 0
+unfolding layout low
+tells-read memory m (offer ms size h) = rw (request-dump-service-fields (ms .device) 1 size 0 [] h (omega arith))
+tells-read memory m (bytes {a} {d} h k v) = rw (dump-data-fields a d h (short a d k))
+
+pub read : (P : Message → Type 0) → ((m : Message) → P m → fields (layout m) .refusal ≡ 0) → (f : Frame) → Carries P f → fields f .refusal ≡ 0
+read P reads f c = subst (λ (x : Frame). fields x .refusal ≡ 0) (sym (c .2)) (reads (c .0) (c .1))
 
 -- ---- the settings
 -- What is used of accepted settings.
@@ -165,7 +180,7 @@ module _ (s : DumpSettings) (ms : MachineSettings) (memory buffer : List ℕ) (g
     on-tick =
         by-cases Says (machine.is 2 (e .machine)) (λ q. absurd (omega (arith, eqb-true, i .state)))
         (λ _. by-cases Says (machine.is 1 (e .machine))
-        (λ _. (i, ((requestDumpService (ms .device) 1 (length (e .memory)) 0 [], offer (rw (i .held) (g .small)), refl), tt))) (λ _. (i, tt)))
+        (λ _. (i, ((machine.asksDump ms (length (e .memory)), offer ms (length (e .memory)) (rw (i .held) (g .small)), refl), tt))) (λ _. (i, tt)))
       where
         Says : Sending → Type 0
         Says out = Does (does (e .machine) (e .memory) out)
@@ -192,5 +207,5 @@ module _ (s : DumpSettings) (ms : MachineSettings) (memory buffer : List ℕ) (g
         host = record { good = fresh s (g .some) buffer; held = refl };
         end = record { state = omega arith; held = refl };
         toMachine = tt;
-        toHost = ((requestDumpService (ms .device) 1 (length memory) 0 [], offer (g .small), refl), tt);
+        toHost = ((machine.asksDump ms (length memory), offer ms (length memory) (g .small), refl), tt);
       }

@@ -3,7 +3,8 @@
 use Prim.Native.Nat.{ℕ}
 use mathlib.Core.Path.{subst}
 use mathlib.Core.List.{List, [], _∷_, _++_}
-use Rattle.link.specs.Link.{Frame, Turn, refuses, acts, Ends, World, machineTurn, hostTurn, Lost, here, there, Closed}
+use Rattle.link.specs.Link.{Frame, Turn, refuses, acts, Ends, World, machineTurn, hostTurn}
+use Rattle.link.specs.LinkLaws.{Lost, here, there, Closed}
 
 -- every frame of a queue
 abbrev pub Each : (Frame → Type 0) → List Frame → Type 0

@@ -8,9 +8,10 @@ use native.Mathlib.Nat.{add-mul, mul-le-mul-right}
 use lib.Dec.{eqb}
 use borrow.Author.Tests.{eqb-true, eqb-false}
 use Rattle.load_next.specs.declared.Session.{Session}
-use Rattle.link.specs.Link.{Frame, Turn, Ends, Closed}
-use Rattle.link.specs.Alone.{Keeps, Alone, alone}
-use Rattle.link_load.specs.Host.{Now, Sending, Heard, refused, ignored, begins, advances, finishes, rejects, Timed, repeats, givesUp, unconfirmed}
+use Rattle.link.specs.Link.{Frame, Turn, Ends}
+use Rattle.link.specs.LinkLaws.{Closed}
+use Rattle.link.specs.AloneLaws.{Keeps, Alone, alone}
+use Rattle.link_load.specs.HostLaws.{Now, Sending, Heard, refused, ignored, begins, advances, finishes, rejects, Timed, repeats, givesUp, unconfirmed}
 
 -- N frames, each repeated at most R times; the flag w, position c, k repeats, verdict v, t frames sent.
 pub record Numbers (N R w c k v t : ℕ) : Type 0 where

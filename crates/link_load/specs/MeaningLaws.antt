@@ -12,8 +12,8 @@ use Rattle.machine_next.specs.declared.Settings.{Settings}
 use Rattle.machine_next.specs.Next as machine
 use Rattle.load_next.specs.declared.Session.{Session}
 use Rattle.link.specs.MachineEnd.{End}
-use Rattle.link_load.specs.Frames.{Frames, laid, machineAt, At}
-use Rattle.link_load.specs.Sender.{Stage}
+use Rattle.link_load.specs.FramesLaws.{Frames, laid, machineAt, At}
+use Rattle.link_load.specs.SenderLaws.{Stage}
 
 module _ {ms : Settings} (fr : Frames ms) (old : List ℕ) where
   -- the old memory with the first k frames laid over it

@@ -11,10 +11,11 @@ use Rattle.octets.specs.TestLaws.{by-cases}
 use Rattle.dump_next.specs.declared.Settings.{Settings}
 use Rattle.dump_next.specs.Next as next
 use Rattle.dump.specs.Dump as dump
-use Rattle.link.specs.Link.{Frame, Turn, Ends, Closed}
-use Rattle.link.specs.Alone.{Keeps, Alone, alone}
+use Rattle.link.specs.Link.{Frame, Turn, Ends}
+use Rattle.link.specs.LinkLaws.{Closed}
+use Rattle.link.specs.AloneLaws.{Keeps, Alone, alone}
 use Rattle.link_dump.specs.Model.{Host}
-use Rattle.link_dump.specs.Host.{Now, Sending, Heard, refused, ignored, begins, asks, finishes, Timed, repeats, givesUp}
+use Rattle.link_dump.specs.HostLaws.{Now, Sending, Heard, refused, ignored, begins, asks, finishes, Timed, repeats, givesUp}
 
 -- L bytes, each frame repeated at most R times; the flag w, f bytes filled, n replies, k repeats, verdict v, t frames sent.
 pub record Numbers (L R w f n k v t : ℕ) : Type 0 where
