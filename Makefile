@@ -45,8 +45,8 @@ $(OUT)/libmop_plain.rlib: $(wildcard tests/independent/*.rs)
 	@mkdir -p $(OUT)
 	$(RUSTC) --crate-type rlib --crate-name mop_plain -o $@ tests/independent/lib.rs
 
-# The declarations on the Rust side, and the header's layout held to the same numbers.
-$(OUT)/libmop_proved.rlib: $(LIB) $(OUT)/layout $(wildcard tests/proved/*.rs)
+# The declarations on the Rust side; `make layout` compares their layout with the header's.
+$(OUT)/libmop_proved.rlib: $(LIB) $(wildcard tests/proved/*.rs)
 	@mkdir -p $(OUT)
 	$(RUSTC) --crate-type rlib --crate-name mop_proved -L native=target/staticlib -o $@ tests/proved/lib.rs
 
@@ -64,7 +64,7 @@ $(OUT)/bench: $(OUT)/libmop_plain.rlib $(OUT)/libmop_proved.rlib $(wildcard benc
 	$(RUSTC) --crate-name bench $(BOTH) -o $@ bench/main.rs
 
 # The proved library against the independent implementation.
-compare: $(OUT)/compare
+compare: layout $(OUT)/compare
 	$(OUT)/compare
 
 # The rehearsal program against the independent implementation: set inputs, the examples, random inputs.
@@ -89,15 +89,21 @@ header: $(OUT)/header
 	for std in c++11 c++14 c++17 c++20; do g++ -std=$$std $(WARN) -fsyntax-only -x c++ include/mop.h || exit 1; done; \
 	echo "header: good C and C++"
 
-$(OUT)/layout: tests/proved/layout.c include/mop.h
-	@mkdir -p $(OUT)
-	$(CC11) -DSTRUCTS=$$(grep -c '^typedef struct' include/mop.h) -o $@ $<
+# The layout of every struct, printed by C and by Rust, is the one that is stored; and a wrong header is found.
+$(OUT)/fields.inc: $(OUT)/header include/mop.h
+	@$(OUT)/header --fields >$@
 
-# The layout of every struct, with the same numbers on the Rust side.
-layout: $(OUT)/layout
-	@$(OUT)/layout
-	@sed -n 's/.*\(FIELD\|INNER\)(.*, \([0-9]*\), \([0-9]*\)).*/\2 \3/p' tests/proved/layout.c >$(OUT)/layout_c
-	@cd tests/proved && sed -n 's/^    [a-z_]* \([0-9]*\) \([0-9]*\),$$/\1 \2/p' lib.rs ends.rs looping.rs | cmp - ../../$(OUT)/layout_c
+$(OUT)/layout_c: tests/layout/layout.c $(OUT)/fields.inc include/mop.h
+	$(CC11) -I$(OUT) -o $@ $<
+
+$(OUT)/layout_rust: tests/layout/main.rs $(OUT)/libmop_proved.rlib
+	$(RUSTC) --crate-name layout_rust --extern mop_proved=$(OUT)/libmop_proved.rlib -o $@ $<
+
+layout: $(OUT)/layout_c $(OUT)/layout_rust
+	@$(OUT)/layout_c | diff tests/layout/expected -
+	@$(OUT)/layout_rust | diff tests/layout/expected -
+	@echo "layout: $$(wc -l <tests/layout/expected) lines, the same in C and in Rust"
+	@tests/layout/wrong $(OUT)
 
 # The code on the header's first page.
 $(OUT)/page.inc: include/mop.h
@@ -150,11 +156,11 @@ sanitize: $(OUT)/guards $(OUT)/load_and_dump $(OUT)/page
 	$(VALGRIND) $(OUT)/page
 
 # For those who edit the C sources: style and two more readers of the code.
-CSOURCES = include/mop.h examples/c/load_and_dump.c $(wildcard tests/c/*.c tests/c/*.h) tests/proved/layout.c
-lint: $(OUT)/page.inc
+CSOURCES = include/mop.h examples/c/load_and_dump.c $(wildcard tests/c/*.c tests/c/*.h) tests/layout/layout.c
+lint: $(OUT)/page.inc $(OUT)/fields.inc
 	clang-format --dry-run -Werror $(CSOURCES) $(wildcard driver/*.[ch]) tests/driver/probe.c
-	cppcheck --quiet --std=c11 --error-exitcode=1 --enable=warning,style,performance,portability -Iinclude -I$(OUT) -DSTRUCTS=16 -DWRONG=1 $(filter %.c,$(CSOURCES))
-	clang-tidy --quiet --warnings-as-errors='*' $(filter %.c,$(CSOURCES)) -- -std=c11 -Iinclude -I$(OUT) -DSTRUCTS=16 -DWRONG=1
+	cppcheck --quiet --std=c11 --error-exitcode=1 --enable=warning,style,performance,portability -Iinclude -I$(OUT) -DWRONG=1 $(filter %.c,$(CSOURCES))
+	clang-tidy --quiet --warnings-as-errors='*' $(filter %.c,$(CSOURCES)) -- -std=c11 -Iinclude -I$(OUT) -DWRONG=1
 
 # The line driver: C programs over the library (driver/).
 DRIVER       = target/driver

@@ -70,56 +70,6 @@ pub struct Step<Record> {
     pub answer: Written,
 }
 
-// The same numbers as in layout.c.
-layout!(MachineSettings, 8, [
-    reply_bytes 0 4,
-    device 4 1,
-    processor 5 1,
-]);
-layout!(Machine, 8, [
-    transfer 0 4,
-    state 4 1,
-    expected 5 1,
-    error 6 1,
-]);
-layout!(Step<Machine>, 24, [
-    record 0 8,
-    answer 8 16,
-]);
-layout!(LoadSettings, 8, [
-    segment_size 0 4,
-    repeats 4 4,
-]);
-layout!(Load, 24, [
-    position 0 8,
-    sent 8 8,
-    repeats 16 4,
-    waiting 20 1,
-    verdict 21 1,
-]);
-layout!(Step<Load>, 40, [
-    record 0 24,
-    answer 24 16,
-]);
-layout!(DumpSettings, 24, [
-    length 0 8,
-    address 8 4,
-    request_bytes 12 4,
-    repeats 16 4,
-]);
-layout!(Dump, 32, [
-    filled 0 8,
-    replies 8 8,
-    sent 16 8,
-    repeats 24 4,
-    waiting 28 1,
-    verdict 29 1,
-]);
-layout!(Step<Dump>, 48, [
-    record 0 32,
-    answer 32 16,
-]);
-
 unsafe extern "C" {
     pub fn mop_machine_start_load(
         settings: MachineSettings,
