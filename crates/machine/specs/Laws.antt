@@ -1,7 +1,7 @@
 -- What the machine sends on a frame is listed and has at most 1,500 bytes; a decision, sent and stored, is what the machine does.
 use Prim.Native.Nat.{ℕ, _+_, _≤_, min}
 use mathlib.Core.Path.{_≡_, refl, ap, sym, subst, _∙_}
-use mathlib.Core.Bool.{true, _||_, cond as pick}
+use mathlib.Core.Bool.{_||_, cond as pick}
 use mathlib.Core.List.{List}
 use native.Mathlib.Omega.{arith}
 use lib.ListN.{length, length-append, length-take, length-drop}
@@ -17,7 +17,7 @@ use Rattle.memory.specs.Laws.{length-bytesFrom}
 use Rattle.message.specs.declared.Fields.{Fields}
 use Rattle.message.specs.Message.{Message, loopData, loopedData}
 use Rattle.message.specs.Read.{message, fields, part, read}
-use Rattle.message.specs.Write.{layout, listed, write}
+use Rattle.message.specs.Write.{layout, write}
 use Rattle.message.specs.Laws.{fields-inside, fields-short, written-read}
 use Rattle.step.specs.Step.{Sending, nothing, sends, Act, acts, gives, Leaves}
 use Rattle.step.specs.Laws.{sent-by, sent-leaves}
