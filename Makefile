@@ -8,7 +8,7 @@ OUT     = target/tests
 LIB     = target/staticlib/libmop.a
 SOURCES = $(shell find crates -name '*.rt' -o -name '*.antt') crates.txt
 
-.PHONY: test run explain frames lib compare compare-rehearsal bench needs trusted trusted-list header layout examples guards sanitize lint driver driver-test line-bench simh
+.PHONY: test run explain frames lib compare compare-rehearsal bench needs trusted trusted-list header layout examples guards sanitize lint driver driver-sanitized driver-test line-bench simh
 
 # rt ci begins by removing target/, so it comes first; its last line is repeated at the end where all else passed.
 test: needs
@@ -154,13 +154,14 @@ guards: header layout $(OUT)/guards
 SANITIZE = -O1 -g -fsanitize=address,undefined -fno-sanitize-recover=all
 VALGRIND = valgrind --quiet --error-exitcode=1 --leak-check=full --child-silent-after-fork=yes
 
-sanitize: $(OUT)/guards $(OUT)/load_and_dump $(OUT)/page
+sanitize: $(OUT)/guards $(OUT)/load_and_dump $(OUT)/page driver-sanitized
 	$(CC11) $(SANITIZE) -o $(OUT)/guards_sanitized $(GUARDS:%=tests/c/%.c) $(LIB)
 	$(CC99) $(SANITIZE) -o $(OUT)/load_and_dump_sanitized examples/c/load_and_dump.c $(LIB)
 	$(CC99) $(SANITIZE) -I$(OUT) -o $(OUT)/page_sanitized tests/c/page.c $(LIB)
 	$(OUT)/guards_sanitized
 	$(call PRINTS,$(OUT)/load_and_dump_sanitized)
 	$(OUT)/page_sanitized
+	for test in $(SANITIZED_TESTS); do DRIVER_PROGRAMS=$(SANITIZED) bash tests/driver/$$test || [ $$? = 77 ] || exit 1; done
 	@command -v valgrind >/dev/null || { echo "sanitize: there is no valgrind"; exit 0; }; set -ex; \
 	$(VALGRIND) $(OUT)/guards 4; \
 	$(call PRINTS,$(VALGRIND) $(OUT)/load_and_dump); \
@@ -168,16 +169,22 @@ sanitize: $(OUT)/guards $(OUT)/load_and_dump $(OUT)/page
 
 # For those who edit the C sources: style and two more readers of the code.
 CSOURCES = include/mop.h examples/c/load_and_dump.c $(wildcard tests/c/*.c tests/c/*.h) tests/layout/layout.c
+DRIVERSOURCES = $(wildcard driver/*.[ch] tests/driver/*.[ch] tests/fuzz/*.[ch])
+CPPCHECK = cppcheck --quiet --std=c11 --error-exitcode=1 --enable=warning,style,performance,portability -Iinclude
+TIDY     = clang-tidy --quiet --warnings-as-errors='*'
+# Of the driver's files one at a time: the analyzer of clang 14 takes what it knows of a va_list from file to file.
 lint: $(OUT)/page.inc $(OUT)/fields.inc
-	clang-format --dry-run -Werror $(CSOURCES) $(wildcard driver/*.[ch]) tests/driver/probe.c
-	cppcheck --quiet --std=c11 --error-exitcode=1 --enable=warning,style,performance,portability -Iinclude -I$(OUT) -DWRONG=1 $(filter %.c,$(CSOURCES))
-	clang-tidy --quiet --warnings-as-errors='*' $(filter %.c,$(CSOURCES)) -- -std=c11 -Iinclude -I$(OUT) -DWRONG=1
+	clang-format --dry-run -Werror $(CSOURCES) $(DRIVERSOURCES)
+	$(CPPCHECK) -I$(OUT) -DWRONG=1 $(filter %.c,$(CSOURCES))
+	$(CPPCHECK) -Idriver -D_GNU_SOURCE $(filter %.c,$(DRIVERSOURCES))
+	$(TIDY) $(filter %.c,$(CSOURCES)) -- -std=c11 -Iinclude -I$(OUT) -DWRONG=1
+	printf '%s\n' $(filter %.c,$(DRIVERSOURCES)) | xargs -P 2 -I FILE $(TIDY) FILE -- -std=c11 -Iinclude -Idriver -D_GNU_SOURCE
 
 # The line driver: C programs over the library (driver/).
 DRIVER       = target/driver
 DRIVER_CC    = $(CC11) -D_GNU_SOURCE -Idriver
 PROGRAMS     = mopimage mopload mopdump mopmachine
-PARTS        = line words options files host progress sha256 pieces hexfiles
+PARTS        = line words options files host progress sha256 pieces hexfiles listing
 
 driver: $(PROGRAMS:%=$(DRIVER)/%)
 
@@ -191,6 +198,23 @@ $(PROGRAMS:%=$(DRIVER)/%): %: %.o $(PARTS:%=$(DRIVER)/%.o) $(LIB)
 $(DRIVER)/probe: tests/driver/probe.c $(PARTS:%=$(DRIVER)/%.o) $(LIB)
 	@$(DRIVER_CC) -o $@ $^
 
+# The same programs with the address and undefined behaviour sanitizers, which most tests take.
+SANITIZED       = $(CURDIR)/target/sanitized
+SANITIZED_TESTS = images records veth ends
+PLAIN_TESTS     = readme rom
+
+driver-sanitized: $(PROGRAMS:%=$(SANITIZED)/%) $(SANITIZED)/probe
+
+$(SANITIZED)/%.o: driver/%.c $(wildcard driver/*.h) include/mop.h
+	@mkdir -p $(SANITIZED)
+	@$(DRIVER_CC) $(SANITIZE) -c -o $@ $<
+
+$(PROGRAMS:%=$(SANITIZED)/%): %: %.o $(PARTS:%=$(SANITIZED)/%.o) $(LIB)
+	@gcc $(SANITIZE) -o $@ $^
+
+$(SANITIZED)/probe: tests/driver/probe.c $(PARTS:%=$(SANITIZED)/%.o) $(LIB)
+	@$(DRIVER_CC) $(SANITIZE) -o $@ $^
+
 # The simulator whose boot ROM the driver is tested with; without it that test is skipped.
 simh:
 	@command -v pdp11 >/dev/null || DEBIAN_FRONTEND=noninteractive timeout 120 apt-get install -y simh </dev/null >/dev/null 2>&1 || echo "make: the package simh cannot be had"
@@ -200,5 +224,6 @@ line-bench: driver
 	@bash bench/line
 
 # The driver on a line of its own; tests/run does the same.
-driver-test: driver $(DRIVER)/probe simh target/bin/frames
-	@for test in images veth ends readme rom; do bash tests/driver/$$test || [ $$? = 77 ] || exit 1; done
+driver-test: driver driver-sanitized $(DRIVER)/probe simh target/bin/frames
+	@for test in $(SANITIZED_TESTS); do DRIVER_PROGRAMS=$(SANITIZED) bash tests/driver/$$test || [ $$? = 77 ] || exit 1; done
+	@for test in $(PLAIN_TESTS); do bash tests/driver/$$test || [ $$? = 77 ] || exit 1; done

@@ -43,7 +43,7 @@ int file_read(const char *path, size_t most, contents *file)
     if (in == NULL)
         return cannot(path, "read");
     int status = read_to(in, path, most, file);
-    fclose(in);
+    (void)fclose(in);
     if (status != 0) {
         free(file->bytes);
         *file = (contents){NULL, 0};
@@ -177,6 +177,68 @@ int file_write(const char *path, const uint8_t *bytes, size_t length)
     status = aside_write(&a, bytes, length);
     if (status == 0)
         return aside_finish(&a, true);
+    aside_remove(&a);
+    return status;
+}
+
+/* ---- A file that replaces nothing unasked ---------------------------- */
+
+/* What is no regular file, in words; NULL for one that is. */
+static const char *kind_words(mode_t mode)
+{
+    switch (mode & S_IFMT) {
+    case S_IFREG:
+        return NULL;
+    case S_IFDIR:
+        return "a directory";
+    case S_IFLNK:
+        return "a symbolic link";
+    case S_IFIFO:
+        return "a pipe";
+    case S_IFSOCK:
+        return "a socket";
+    default:
+        return "a device";
+    }
+}
+
+static bool is_input(const output *o, const struct stat *there)
+{
+    struct stat input;
+    for (size_t i = 0; i < o->inputs_count; i++)
+        if (stat(o->inputs[i], &input) == 0 && input.st_dev == there->st_dev && input.st_ino == there->st_ino)
+            return true;
+    return false;
+}
+
+int output_check(const output *o)
+{
+    struct stat there;
+    if (o->path[0] == '\0')
+        return complain(STATUS_FILE, "the name of the file to write is empty");
+    if (lstat(o->path, &there) != 0)
+        return errno == ENOENT ? 0 : cannot(o->path, "written");
+    const char *kind = kind_words(there.st_mode);
+    if (kind != NULL)
+        return complain(STATUS_FILE, "%s is %s, which is never replaced", o->path, kind);
+    if (is_input(o, &there))
+        return complain(STATUS_FILE, "%s is one of the inputs, which are never replaced", o->path);
+    if (!o->force)
+        return complain(STATUS_FILE, "%s exists: give another name, or --force to replace it", o->path);
+    return 0;
+}
+
+int output_write(const output *o, const uint8_t *bytes, size_t length)
+{
+    aside a;
+    int status = output_check(o);
+    if (status == 0)
+        status = aside_open(&a, o->path, length);
+    if (status != 0)
+        return status;
+    status = aside_write(&a, bytes, length);
+    if (status == 0)
+        return aside_finish(&a, o->force);
     aside_remove(&a);
     return status;
 }

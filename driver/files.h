@@ -38,4 +38,21 @@ void aside_remove(aside *a);
 /* All of it at once, replacing. */
 int file_write(const char *path, const uint8_t *bytes, size_t length);
 
+/* A file to be made at once. What has its name already is replaced only if it
+ * is a regular file, force is set, and it is none of the files that were read,
+ * whatever name they have. */
+typedef struct output {
+    const char *path;
+    bool force;
+    const char *const *inputs; /* the names of the files that were read */
+    size_t inputs_count;
+} output;
+
+/* Whether it may be made, to be asked before the work: 0, or an exit status
+ * with the reason said. */
+int output_check(const output *o);
+
+/* Checks again, and makes it. */
+int output_write(const output *o, const uint8_t *bytes, size_t length);
+
 #endif

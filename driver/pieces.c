@@ -1,5 +1,6 @@
 #include "pieces.h"
 
+#include <assert.h>
 #include <inttypes.h>
 #include <stdlib.h>
 #include <string.h>
@@ -7,12 +8,10 @@
 #include "words.h"
 
 #define ADDRESS_END ((uint64_t)UINT32_MAX + 1)
-#define REGIONS_MOST 64
-#define ENTRY 12
-#define TRAILER 16
 
 static int grow_list(pieces *p)
 {
+    assert(p->count <= p->room && (p->room == 0) == (p->list == NULL));
     if (p->count < p->room)
         return 0;
     size_t room = p->room == 0 ? 256 : 2 * p->room;
@@ -26,8 +25,8 @@ static int grow_list(pieces *p)
 
 static int grow_store(pieces *p, size_t length)
 {
-    if (p->store.length + length > IMAGE_MOST)
-        return complain(STATUS_IMAGE, "there are more bytes than an image can hold, 16777216");
+    if (p->store.length + length > MOP_FILE_MOST)
+        return complain(STATUS_IMAGE, "there are more bytes than an image can hold, %d", MOP_FILE_MOST);
     if (p->store.length + length <= p->store_room)
         return 0;
     size_t room = 2 * (p->store.length + length);
@@ -105,10 +104,10 @@ int pieces_join(pieces *p)
             p->list[++kept] = *one;
     }
     p->count = kept + 1;
-    if (p->count > REGIONS_MOST)
+    if (p->count > MOP_REGIONS_MOST)
         return complain(STATUS_IMAGE,
             "there are %zu regions with gaps between, and an image holds %d: fill gaps with bytes", p->count,
-            REGIONS_MOST);
+            MOP_REGIONS_MOST);
     return 0;
 }
 
@@ -121,7 +120,7 @@ static uint8_t *put(uint8_t *at, uint64_t number, int bytes)
 
 int pieces_image(const pieces *p, contents *image)
 {
-    image->length = p->store.length + ENTRY * p->count + TRAILER;
+    image->length = p->store.length + IMAGE_ENTRY * p->count + IMAGE_TRAILER;
     image->bytes = malloc(image->length);
     if (image->bytes == NULL)
         return complain(STATUS_OTHER, "no memory");

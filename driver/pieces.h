@@ -9,7 +9,10 @@
 
 #include "files.h"
 
-#define IMAGE_MOST ((size_t)16777216)
+/* Bytes of an image file behind the regions: of each entry of the directory,
+ * and of the trailer. */
+#define IMAGE_ENTRY 12
+#define IMAGE_TRAILER 16
 
 typedef struct piece {
     uint64_t address;

@@ -18,6 +18,7 @@ own_namespace() {
     [ "$(id -u)" = 0 ] || way="unshare -rn"
     $way true 2>/dev/null || skip "no network namespace can be made here"
     export KOCHIPURN_NAMESPACE=$$
+    rmdir "$work" "$reports" # made again there
     # exec keeps the process number
     exec $way bash "$self" "$@"
 }
@@ -34,7 +35,12 @@ own_line() {
 passed=0
 failed=0
 work=$(mktemp -d)
-trap 'rm -rf "$work"' EXIT
+reports=$(mktemp -d)
+chmod 1777 "$reports" # for programs that have given up their privileges
+trap 'rm -rf "$work" "$reports"' EXIT
+
+# Of the sanitized programs: what they find goes to files, so that none is missed.
+export ASAN_OPTIONS=log_path=$reports/found UBSAN_OPTIONS=log_path=$reports/found
 
 # check NAME COMMAND..: one case. Timers run by the clock, and a computer that is short of processors may let one run out
 # early, so a case that fails is tried twice more.
@@ -54,6 +60,10 @@ check() {
 }
 
 summary() {
+    if [ -n "$(ls "$reports")" ]; then
+        cat "$reports"/*
+        failed=$((failed + 1))
+    fi
     echo "$(basename "$0"): $passed passed, $failed failed"
     [ "$failed" = 0 ]
 }

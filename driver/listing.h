@@ -1,0 +1,16 @@
+/* listing.h: what an image file holds, or why it is refused, in words. */
+#ifndef LISTING_H
+#define LISTING_H
+
+#include <stdio.h>
+
+#include "files.h"
+#include "mop.h"
+
+/* The regions and the transfer address of an image that the library takes. */
+void image_list(FILE *out, const contents *file, mop_image image);
+
+/* What the trailer says, and for a wrong entry those up to it. */
+void image_explain(FILE *out, const contents *file, uint8_t refusal);
+
+#endif
