@@ -82,7 +82,7 @@ module _ {H M : Type 0} (ends : Ends H M ⊥) where
       subst (λ (h : H). Beside (hostTurn w q (call (w .host))) (hostTurn v r (call h))) (b .alike .0) (host-acts w v q r (call (w .host)) b t)
 
   -- the frames before the first one that is left are dropped: the first frame is then the same
-  pub record Front (q : List Frame) (f : Frame) (r : List Frame) (drops : List Frame → List (Event ⊥) → List Frame → Type 0) : Type 0 where
+  record Front (q : List Frame) (f : Frame) (r : List Frame) (drops : List Frame → List (Event ⊥) → List Frame → Type 0) : Type 0 where
     events : List (Event ⊥)
     rest : List Frame
     reached : drops q events (f ∷ rest)
