@@ -2,10 +2,10 @@
 -- false of each, so no proof of it could be had. Image, settings and memory are those of the worked examples.
 use Prim.Native.Nat.{ℕ}
 use mathlib.Core.Path.{refl, ap}
-use mathlib.Core.Bool.{cond as pick}
+use mathlib.Core.Bool.{Bool, cond as pick}
 use mathlib.Core.List.{List, [], _∷_, _++_}
 use native.Mathlib.Omega.{arith}
-use lib.ListN.{take, getD, replicate}
+use lib.ListN.{length, take, getD, replicate}
 use lib.Dec.{eqb}
 use Rattle.octets.specs.Number.{number, low}
 use Rattle.octets.specs.Lay.{over}
@@ -48,10 +48,10 @@ abbrev withMachine : (End → Frame → List ℕ → Turn End) → Ends Session 
 withMachine frame =
     record { hostFrame = ours .hostFrame; hostTimer = ours .hostTimer; machineFrame = frame; machineTimer = ours .machineTimer; further = ours .further }
 
--- the claim, after a list of events from fresh ends with 8 bytes of memory
-abbrev Claim : Ends Session End ⊥ → List (Event ⊥) → Type 0
-Claim ends es =
-    Report loaded.loadSettings loaded.image (replicate 8 0) (run ends (load.freshWorld loaded.machineSettings (replicate 8 0)) es)
+-- the claim, after a list of events from fresh ends with so many bytes of memory
+abbrev Claim : Ends Session End ⊥ → ℕ → List (Event ⊥) → Type 0
+Claim ends n es =
+    Report loaded.loadSettings loaded.image (replicate n 0) (run ends (load.freshWorld loaded.machineSettings (replicate n 0)) es)
 
 -- A machine that stores segment 0 and merely acknowledges the others: it leaves memory as it was.
 abbrev leaves : List ℕ → Turn End → Turn End
@@ -61,9 +61,21 @@ leaves old (acts e out) = acts (machineEnd (e .machine) old) out
 abbrev acknowledges : Ends Session End ⊥
 acknowledges = withMachine (λ e f b. pick (eqb (fields f .number) 0) (ours .machineFrame e f b) (leaves (e .memory) (ours .machineFrame e f b)))
 
-pub acknowledges-only : Claim acknowledges whole → ⊥
+pub acknowledges-only : Claim acknowledges 8 whole → ⊥
 unfolding run laidOver loaded.image number low least leastIn byCode fields layout first trailerOf entryOf entries demand entriesRefusal many segment fits byNumber onLoad
 acknowledges-only r = let z = ap (λ (m : List ℕ). getD m 4 0) (r .finished refl .memory-is) in omega arith
+
+-- A machine that clips: it works as if memory were longer, and what is beyond memory's end is lost. Segment 1 is beyond 4 bytes.
+abbrev clipped : ℕ → Turn End → Turn End
+clipped n refuses = refuses
+clipped n (acts e out) = acts (machineEnd (e .machine) (take n (e .memory))) out
+
+abbrev clips : Ends Session End ⊥
+clips = withMachine (λ e f b. clipped (length (e .memory)) (ours .machineFrame (machineEnd (e .machine) (e .memory ++ replicate 8 0)) f b))
+
+pub clips-beyond : Claim clips 4 whole → ⊥
+unfolding run loaded.image number low least leastIn byCode fields layout first trailerOf entryOf entries demand entriesRefusal many segment fits byNumber onLoad
+clips-beyond r = let z = ap {B = ℕ} (λ (b : Bool). pick b 1 0) (r .finished refl .fitting 1 (omega arith)) in omega arith
 
 -- A host that says finished on the first reply.
 abbrev finished : Turn Session → Turn Session
@@ -73,7 +85,7 @@ finished (acts h out) = acts (record { position = 2; sent = h .sent; repeats = 0
 abbrev hasty : Ends Session End ⊥
 hasty = withHost (λ h f b. pick (eqb (fields f .code) 10) (finished (ours .hostFrame h f b)) (ours .hostFrame h f b))
 
-pub finished-on-first : Claim hasty (take 3 whole) → ⊥
+pub finished-on-first : Claim hasty 8 (take 3 whole) → ⊥
 unfolding run laidOver loaded.image number low least leastIn byCode fields layout first trailerOf entryOf entries demand entriesRefusal many segment fits byNumber onLoad
 finished-on-first r = let z = ap (λ (m : List ℕ). getD m 4 0) (r .finished refl .memory-is) in omega arith
 
@@ -85,7 +97,7 @@ more (acts h out) = acts (raised h) out
 abbrev inventive : Ends Session End ⊥
 inventive = withHost (λ h f b. more (ours .hostFrame h f b))
 
-pub invented-count : Claim inventive (take 1 whole) → ⊥
+pub invented-count : Claim inventive 8 (take 1 whole) → ⊥
 unfolding run loaded.image number low least leastIn byCode fields layout first trailerOf entryOf entries demand entriesRefusal many segment
 invented-count r = let z = r .counted in omega arith
 

@@ -1,10 +1,11 @@
 -- A line with bounded queues against the link: what it loses at the back is what the link drops when it comes to the front.
 use Prim.Native.Nat.{ℕ, zero, suc}
 use mathlib.Core.Path.{_≡_, refl, sym, subst, _∙_}
-use mathlib.Core.List.{List, [], _∷_, _++_}
+use mathlib.Core.List.{List, [], _∷_, _++_, append-nil}
 use native.Mathlib.Omega.{arith}
-use lib.ListN.{take}
+use lib.ListN.{take, drop, take-append-drop}
 use Rattle.link.specs.Link.{Frame, Turn, refuses, acts, World, Ends, Event, own, further, handToMachine, keepToMachine, dropToMachine, handToHost, keepToHost, dropToHost, hostTimer, machineTimer, Own, machineTurn, hostTurn, withToMachine, withToHost, handedToMachine, keptToMachine, droppedToMachine, handedToHost, keptToHost, droppedToHost, ownStep, step, run}
+use Rattle.link.specs.LinkLaws.{Lost, here, there, Closed, kept-any}
 use Rattle.link.specs.Bounded.{within, runWithin, Alike}
 
 -- A queue, and what is left of it when some of its frames are lost.
@@ -81,7 +82,7 @@ module _ {H M : Type 0} (ends : Ends H M ⊥) where
       subst (λ (h : H). Beside (hostTurn w q (call (w .host))) (hostTurn v r (call h))) (b .alike .0) (host-acts w v q r (call (w .host)) b t)
 
   -- the frames before the first one that is left are dropped: the first frame is then the same
-  pub record Front (q : List Frame) (f : Frame) (r : List Frame) (drops : List Frame → List (Event ⊥) → List Frame → Type 0) : Type 0 where
+  record Front (q : List Frame) (f : Frame) (r : List Frame) (drops : List Frame → List (Event ⊥) → List Frame → Type 0) : Type 0 where
     events : List (Event ⊥)
     rest : List Frame
     reached : drops q events (f ∷ rest)
@@ -182,3 +183,30 @@ module _ {H M : Type 0} (ends : Ends H M ⊥) where
   alike-run n w es =
       let x = beside-run n w w es (record { alike = (refl, refl, refl); toMachine = whole (w .toMachine); toHost = whole (w .toHost) }) in
       (x .0, x .1 .alike)
+
+-- ---- an invariant that withstands the link's own events is kept on the bounded line too: what a full queue loses is one frame after the other
+module _ {H M X : Type 0} (ends : Ends H M X) (Holds : World H M → Type 0) (c : Closed ends Holds) where
+  one-less : (p : List Frame) (f : Frame) (q : List Frame) → Lost (p ++ (f ∷ q)) (p ++ q)
+  one-less [] f q = here
+  one-less (g ∷ p) f q = there (one-less p f q)
+
+  cut-to-machine : (w : World H M) (p q : List Frame) → Holds (withToMachine w (p ++ q)) → Holds (withToMachine w p)
+  cut-to-machine w p [] h = rw append-nil at h
+  cut-to-machine w p (f ∷ q) h = cut-to-machine w p q (c .lostM (withToMachine w (p ++ (f ∷ q))) (p ++ q) (one-less p f q) h)
+
+  cut-to-host : (w : World H M) (p q : List Frame) → Holds (withToHost w (p ++ q)) → Holds (withToHost w p)
+  cut-to-host w p [] h = rw append-nil at h
+  cut-to-host w p (f ∷ q) h = cut-to-host w p q (c .lostH (withToHost w (p ++ (f ∷ q))) (p ++ q) (one-less p f q) h)
+
+  kept-within : (n : ℕ) (w : World H M) → Holds w → Holds (within n w)
+  kept-within n w h =
+      let v : World H M = withToMachine w (take n (w .toMachine)) in
+      let m : Holds v =
+      cut-to-machine w (take n (w .toMachine)) (drop n (w .toMachine))
+      (subst (λ (q : List Frame). Holds (withToMachine w q)) (sym (take-append-drop n (w .toMachine))) h) in
+      cut-to-host v (take n (w .toHost)) (drop n (w .toHost)) (subst (λ (q : List Frame). Holds (withToHost v q)) (sym (take-append-drop n (w .toHost))) m)
+
+  pub always-within : ((w : World H M) (x : X) → Holds w → Holds (ends .further w x)) → (n : ℕ) (w : World H M) (es : List (Event X)) → Holds w → Holds (runWithin n ends w es)
+  unfolding runWithin
+  always-within f n w [] h = h
+  always-within f n w (e ∷ es) h = always-within f n (within n (step ends w e)) es (kept-within n (step ends w e) (kept-any ends Holds c f w e h))

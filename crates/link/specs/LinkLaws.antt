@@ -66,7 +66,7 @@ module _ {H M X : Type 0} (ends : Ends H M X) where
     kept w (machineTimer b) h = c .timerM w b h
 
     module _ (f : (w : World H M) (x : X) → Holds w → Holds (ends .further w x)) where
-      kept-any : (w : World H M) (e : Event X) → Holds w → Holds (step ends w e)
+      pub kept-any : (w : World H M) (e : Event X) → Holds w → Holds (step ends w e)
       kept-any w (own e) h = kept w e h
       kept-any w (further x) h = f w x h
 

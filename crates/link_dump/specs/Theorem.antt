@@ -5,7 +5,7 @@
 --     counted            frames sent is what the link took, within its bound
 --     never-bad          no reached record is a bad one
 --     never-refused      no call of either end with a reply buffer of 1,500 bytes is refused
---     bounded-dump       the theorem on a line with bounded queues
+--     bounded-dump, bounded-never-refused    the same on a line with bounded queues
 --     started-dump       the fresh world is what the start calls leave
 use Prim.Native.Nat.{ℕ, _+_, _*_, _≤_, _<_}
 use mathlib.Core.Path.{_≡_, refl, _∙_}
@@ -32,7 +32,7 @@ use Rattle.link.specs.MachineEnd.{machineEnd}
 use Rattle.link.specs.MachineEndLaws.{starts}
 use Rattle.link_dump.specs.Model.{dumpEnds, freshWorld, after, Copied, Dumped}
 use Rattle.link_dump.specs.InvariantLaws.{given}
-use Rattle.link_dump.specs.DumpedLaws.{dumped-alike, claimed, copied, untouched, whole, unrefused}
+use Rattle.link_dump.specs.DumpedLaws.{dumped-alike, kept, kept-within, claimed, copied, untouched, whole, unrefused}
 
 -- The fresh world is what the start calls leave: the host is `dump::start`'s; the machine and the one frame queued are what `machine::start_dump`
 -- left by its contract, if it was not refused.
@@ -48,7 +48,7 @@ module _
     (ready : machine.refusal ms machine.offering (length memory) 1500 ≡ 0) (es : List (Event ⊥)) where
   -- The theorem.
   pub dumped : Dumped s memory buffer (after s ms memory buffer es)
-  dumped = claimed s ms memory buffer settled ready es
+  dumped = claimed s ms memory buffer settled ready (after s ms memory buffer es) (kept s ms memory buffer settled ready es)
 
   -- the host's record, its dump buffer and the machine's memory, then
   abbrev session : Session
@@ -67,9 +67,9 @@ module _
   filed-dump v =
       let g = given s ms memory buffer settled ready in
       let all : session .filled ≡ s .length = dumped .finished v in (
-        whole s ms memory buffer settled ready es v,
+        whole s memory buffer (after s ms memory buffer es) dumped (g .whole) v,
         dumped .size ∙ g .whole,
-        λ k h. copied s ms memory buffer settled ready es k (omega arith),
+        λ k h. copied s memory buffer (after s ms memory buffer es) dumped k (omega arith),
         dumped .memory-is,
       )
 
@@ -84,8 +84,8 @@ module _
       let not-all : session .filled ≡ s .length → ⊥ = λ e. v (dumped .full e) in (
         omega (arith, dumped .filled, not-all),
         dumped .size ∙ g .whole,
-        copied s ms memory buffer settled ready es,
-        untouched s ms memory buffer settled ready es,
+        copied s memory buffer (after s ms memory buffer es) dumped,
+        untouched s memory buffer (after s ms memory buffer es) dumped,
         dumped .memory-is,
       )
 
@@ -101,10 +101,14 @@ module _
   -- No call of either end with a reply buffer of at least 1,500 bytes is refused, whatever the events before and their buffers: on a timer, or on the
   -- next frame of its queue.
   pub never-refused : Unrefused (dumpEnds s ms) (after s ms memory buffer es)
-  never-refused = unrefused s ms memory buffer settled ready es
+  never-refused = unrefused s ms memory buffer settled ready (after s ms memory buffer es) (kept s ms memory buffer settled ready es)
 
-  -- On a line whose queues hold at most n frames, where a frame that finds its queue full is lost, the same claim holds.
+  -- On a line whose queues hold at most n frames, where a frame that finds its queue full is lost, the same claim holds, and no such call is refused.
   pub bounded-dump : (n : ℕ) → Dumped s memory buffer (runWithin n (dumpEnds s ms) (freshWorld ms memory buffer) es)
   bounded-dump n =
       let x = bounded (dumpEnds s ms) n (freshWorld ms memory buffer) es in
-      dumped-alike s memory buffer _ _ (x .1) (claimed s ms memory buffer settled ready (x .0))
+      dumped-alike s memory buffer (after s ms memory buffer (x .0)) _ (x .1)
+      (claimed s ms memory buffer settled ready (after s ms memory buffer (x .0)) (kept s ms memory buffer settled ready (x .0)))
+
+  pub bounded-never-refused : (n : ℕ) → Unrefused (dumpEnds s ms) (runWithin n (dumpEnds s ms) (freshWorld ms memory buffer) es)
+  bounded-never-refused n = unrefused s ms memory buffer settled ready _ (kept-within s ms memory buffer settled ready n es)

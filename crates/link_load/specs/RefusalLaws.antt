@@ -1,4 +1,5 @@
--- In every run from fresh ends no record is ever bad, and every frame on its way is read: with a reply buffer of 1,500 bytes no call is refused.
+-- Where what every run keeps holds, the record is not bad and every frame on its way is read: with a reply buffer of 1,500 bytes no call is
+-- refused.
 use Prim.Native.Nat.{ℕ, zero, suc, _+_, _*_, _%_, _≤_, _<_}
 use mathlib.Core.Path.{_≡_, refl}
 use mathlib.Core.Bool.{Bool, true, false, not, cond as pick}
@@ -26,17 +27,17 @@ use Rattle.load_next.specs.declared.Session.{Session}
 use Rattle.load_next.specs.declared.Settings.{Settings as LoadSettings}
 use Rattle.load_next.specs.Next as next
 use Rattle.load.specs.Load as load
-use Rattle.link.specs.Link.{Frame, World, Event}
+use Rattle.link.specs.Link.{Frame, World}
 use Rattle.link.specs.CallLaws as call
 use Rattle.link.specs.NumberedLaws.{first-down, first-up}
 use Rattle.link.specs.Unrefused.{Unrefused}
 use Rattle.link.specs.MachineEnd.{End}
 use Rattle.link.specs.MachineEndLaws.{frame-unrefused, timer-unrefused, as-accepted}
-use Rattle.link_load.specs.Model.{hostEnd, loadEnds, after}
+use Rattle.link_load.specs.Model.{hostEnd, loadEnds}
 use Rattle.link_load.specs.AloneLaws.{Good, bound}
 use Rattle.link_load.specs.FramesLaws.{Frames, machineAt, length-laid, said}
 use Rattle.link_load.specs.ImageLaws.{segment-read}
-use Rattle.link_load.specs.ReportLaws.{fr, load-transfer, reached, counts}
+use Rattle.link_load.specs.ReportLaws.{fr, load-transfer, Kept}
 
 -- ---- the host's record alone: one with good numbers is none of those that are bad
 module _ (s : LoadSettings) (N : ℕ) (h : Session) (g : Good N (s .repeats) h) where
@@ -76,15 +77,12 @@ not-refused s file h reply ok few g l =
 
 module _
     (s : LoadSettings) (ms : MachineSettings) (file old : List ℕ) (ok : cutRefusal file (s .«segment_size») ≡ 0) (o : Octets file)
-    (few : s .repeats ≤ 255) (fresh : machineRefusal ms requesting (length old) 1500 ≡ 0) (es : List (Event ⊥)) where
-  abbrev w : World Session End
-  w = after s ms file old es
-
+    (few : s .repeats ≤ 255) (fresh : machineRefusal ms requesting (length old) 1500 ≡ 0) (w : World Session End) (k : Kept s ms file old ok o w) where
   abbrev t : Frames ms
   t = fr s ms file old ok o
 
   host-accepted : (reply : List ℕ) → 1500 ≤ length reply → load.refusal s (w .host) file reply ≡ 0
-  host-accepted reply l = not-refused s file (w .host) reply ok few (counts s ms file old ok o es .0) l
+  host-accepted reply l = not-refused s file (w .host) reply ok few (k .1 .0) l
 
   -- the machine's state and memory length stay within their ranges
   any : (a b : Bool) (x y z : Machine) → x .state ≤ 4 → y .state ≤ 4 → z .state ≤ 4 → pick a (pick b x y) z .state ≤ 4
@@ -99,7 +97,7 @@ module _
 
   machine-accepted : (reply : List ℕ) → 1500 ≤ length reply → machineRefusal ms (w .machine .machine) (length (w .machine .memory)) (length reply) ≡ 0
   machine-accepted reply l =
-      let i = reached s ms file old ok o es in
+      let i = k .0 in
       rw (i .2 .end-is, length-laid t old refl (i .0) (i .2 .few))
       (as-accepted ms requesting (machineAt t old (i .0)) (length old) (length reply) (omega arith) (state (i .0)) l fresh)
 
@@ -110,12 +108,12 @@ module _
 
   host-read : (f : Frame) (q : List Frame) → w .toHost ≡ f ∷ q → fields f .refusal ≡ 0
   host-read f q e =
-      let x = first-up (load-transfer s ms file old ok o) (loadEnds s ms file) w f q (reached s ms file old ok o es) e in
+      let x = first-up (load-transfer s ms file old ok o) (loadEnds s ms file) w f q (k .0) e in
       rw (x .1) (said-read (x .0))
 
   machine-read : (f : Frame) (q : List Frame) → w .toMachine ≡ f ∷ q → fields f .refusal ≡ 0
   machine-read f q e =
-      let x = first-down (load-transfer s ms file old ok o) (loadEnds s ms file) w f q (reached s ms file old ok o es) e in
+      let x = first-down (load-transfer s ms file old ok o) (loadEnds s ms file) w f q (k .0) e in
       let less : x .0 < t .many = ⊎-elim (λ l. l) (λ p. p .0) (x .2) in
       rw (x .1) (segment-read (s .«segment_size») ms file (length old) ok o (x .0) less)
 

@@ -11,8 +11,9 @@ use Rattle.machine_next.specs.declared.Settings.{Settings as MachineSettings}
 use Rattle.load_next.specs.declared.Session.{Session}
 use Rattle.load_next.specs.declared.Settings.{Settings as LoadSettings}
 use Rattle.link.specs.Link.{World, Event}
-use Rattle.link.specs.LinkLaws.{always}
-use Rattle.link.specs.Bounded.{Alike}
+use Rattle.link.specs.LinkLaws.{Closed, always}
+use Rattle.link.specs.Bounded.{Alike, runWithin}
+use Rattle.link.specs.BoundedLaws.{always-within}
 use Rattle.link.specs.NumberedLaws as numbered
 use Rattle.link.specs.NumberedLaws.{Transfer}
 use Rattle.link.specs.AloneLaws.{Alone}
@@ -54,22 +55,41 @@ module _ (s : LoadSettings) (ms : MachineSettings) (file old : List ℕ) (ok : c
   abbrev pub load-transfer : Transfer Session End
   load-transfer = sending fr (s .repeats) old
 
-  -- every world that a run reaches has the invariant
-  pub reached : (es : List (Event ⊥)) → numbered.Inv load-transfer (loadEnds s ms file) (after s ms file old es)
-  unfolding machineAt laid
-  reached es =
-      let ends = loadEnds s ms file in
-      always ends (numbered.Inv load-transfer ends)
-      (numbered.closed load-transfer ends (sender fr (s .repeats) old ends (heard s file) (timed s file))
-      (receiver fr old refl (ends .hostFrame) (ends .hostTimer) (ends .further) (Stage (fr .many) (s .repeats) (fr .fit))))
-      (λ w x. absurd x) (freshWorld ms old) es (0, 0, numbered.begins load-transfer ends _ _ (fresh fr (s .repeats) old) refl)
+  -- what every run keeps: the invariant of numbered frames, and a record whose numbers are good
+  abbrev pub Inv : World Session End → Type 0
+  Inv = numbered.Inv load-transfer (loadEnds s ms file)
 
-  -- and a record whose numbers are good
-  pub counts : (es : List (Event ⊥)) → Alone (Good N (s .repeats)) (λ h. h .sent) (loadEnds s ms file) (after s ms file old es)
-  counts es =
-      always (loadEnds s ms file) (Alone (Good N (s .repeats)) (λ h. h .sent) (loadEnds s ms file))
-      (alone-load N (s .repeats) (fr .some) (F s file) (loadEnds s ms file) (heard s file) (timed s file))
-      (λ w x. absurd x) (freshWorld ms old) es (fresh fr (s .repeats) old .good, refl)
+  abbrev pub Counts : World Session End → Type 0
+  Counts = Alone (Good N (s .repeats)) (λ h. h .sent) (loadEnds s ms file)
+
+  abbrev pub Kept : World Session End → Type 0
+  Kept w = Inv w × Counts w
+
+  inv : Closed (loadEnds s ms file) Inv
+  inv =
+      let ends = loadEnds s ms file in
+      numbered.closed load-transfer ends (sender fr (s .repeats) old ends (heard s file) (timed s file))
+      (receiver fr old refl (ends .hostFrame) (ends .hostTimer) (ends .further) (Stage (fr .many) (s .repeats) (fr .fit)))
+
+  counting : Closed (loadEnds s ms file) Counts
+  counting = alone-load N (s .repeats) (fr .some) (F s file) (loadEnds s ms file) (heard s file) (timed s file)
+
+  at-first : Kept (freshWorld ms old)
+  unfolding machineAt laid
+  at-first =
+      ((0, 0, numbered.begins load-transfer (loadEnds s ms file) _ _ (fresh fr (s .repeats) old) refl), (fresh fr (s .repeats) old .good, refl))
+
+  pub kept : (es : List (Event ⊥)) → Kept (after s ms file old es)
+  kept es = (
+    always (loadEnds s ms file) Inv inv (λ w x. absurd x) (freshWorld ms old) es (at-first .0),
+    always (loadEnds s ms file) Counts counting (λ w x. absurd x) (freshWorld ms old) es (at-first .1),
+  )
+
+  pub kept-within : (n : ℕ) (es : List (Event ⊥)) → Kept (runWithin n (loadEnds s ms file) (freshWorld ms old) es)
+  kept-within n es = (
+    always-within (loadEnds s ms file) Inv inv (λ w x. absurd x) n (freshWorld ms old) es (at-first .0),
+    always-within (loadEnds s ms file) Counts counting (λ w x. absurd x) n (freshWorld ms old) es (at-first .1),
+  )
 
   -- an image's frames are in exactly if its segments are
   over-image : (k : ℕ) → meaning.laidOver fr old k ≡ laidOver file (s .«segment_size») old k
@@ -87,11 +107,10 @@ module _ (s : LoadSettings) (ms : MachineSettings) (file old : List ℕ) (ok : c
         not-started = i .not-started;
       }
 
-  pub report : (es : List (Event ⊥)) → Report s file old (after s ms file old es)
-  report es =
-      let w = after s ms file old es in
-      let i = reached es in
-      let g : Good N (s .repeats) (w .host) = counts es .0 in
+  pub report : (w : World Session End) → Kept w → Report s file old w
+  report w k =
+      let i = k .0 in
+      let g : Good N (s .repeats) (w .host) = k .1 .0 in
       let m : Meaning fr old (w .host) (w .machine) =
       subst (Meaning fr old (w .host)) (sym (i .2 .end-is)) (means fr old (s .repeats) (i .0) (i .1) (w .host) (i .2 .stage) (i .2 .lower) (i .2 .upper) (i .2 .few) (i .2 .fitting)) in
       record {
@@ -99,17 +118,14 @@ module _ (s : LoadSettings) (ms : MachineSettings) (file old : List ℕ) (ok : c
         rejected = λ e. image-in (w .host .position) (w .machine) (m .rejected e);
         finished = λ e. image-in N (w .machine) (m .finished e);
         otherwise = λ a b c. ⊎-map (image-in (w .host .position) (w .machine)) (image-in (w .host .position + 1) (w .machine)) (m .otherwise a b);
-        counted = omega (arith, counts es .1);
+        counted = omega (arith, k .1 .1);
         bounded = omega (arith, bound N (s .repeats) (w .host) g);
         rejected-at = λ e. g .otherwise (λ q. omega arith) .0;
         given-up-at = λ e. g .given-up e .0;
         unconfirmed-at = λ e. g .unconfirmed e .0;
       }
 
-  -- given up or unconfirmed: the segment on its way may be in
-  pub on-way : (es : List (Event ⊥)) (v : ℕ) → 2 < v → after s ms file old es .host .verdict ≡ v
-      → FirstIn file (s .«segment_size») old (after s ms file old es .host .position) (after s ms file old es .machine)
-      ⊎ FirstIn file (s .«segment_size») old (after s ms file old es .host .position + 1) (after s ms file old es .machine)
-  on-way es v l e =
-      let r = report es in
-      r .otherwise (λ q. omega (arith, r .waiting q .1)) (λ q. omega arith) (λ q. omega arith)
+-- given up or unconfirmed: the segment on its way may be in
+pub on-way : (s : LoadSettings) (file old : List ℕ) (w : World Session End) (v : ℕ) → 2 < v → w .host .verdict ≡ v → Report s file old w
+    → FirstIn file (s .«segment_size») old (w .host .position) (w .machine) ⊎ FirstIn file (s .«segment_size») old (w .host .position + 1) (w .machine)
+on-way s file old w v l e r = r .otherwise (λ q. omega (arith, r .waiting q .1)) (λ q. omega arith) (λ q. omega arith)

@@ -10,9 +10,9 @@ use Rattle.load_next.specs.declared.Settings.{Settings as LoadSettings}
 use Rattle.link.specs.Link.{Event}
 use Rattle.link_load.specs.Model.{after}
 use Rattle.link_load.specs.Report.{Report}
-use Rattle.link_load.specs.ReportLaws.{report}
+use Rattle.link_load.specs.ReportLaws.{kept, report}
 
 -- The theorem: one claim over the whole list, for an accepted image of bytes, any memory, any settings.
 pub reported : (s : LoadSettings) (ms : MachineSettings) (file old : List ℕ) → cutRefusal file (s .«segment_size») ≡ 0 → Octets file
     → (es : List (Event ⊥)) → Report s file old (after s ms file old es)
-reported s ms file old ok o es = report s ms file old ok o es
+reported s ms file old ok o es = report s ms file old ok o (after s ms file old es) (kept s ms file old ok o es)
