@@ -9,7 +9,7 @@ use lib.ListN.{length, getD, getElem?}
 use lib.Dec.{ltb}
 use borrow.Author.Tests.{ltb-true}
 use Rattle.octets.specs.Number.{Octets}
-use Rattle.octets.specs.Cases.{both}
+use Rattle.octets.specs.TestLaws.{both}
 
 -- element k, if it is there
 pub is-there : {A : Type 0} (d : A) (xs : List A) (k : ℕ) → k < length xs → getElem? xs k ≡ some (getD xs k d)
