@@ -504,7 +504,8 @@ typedef struct mop_machine_settings {
 
 /* The machine's record. A number that the state does not use is not looked at;
  * on entering a state such numbers become 0. Two calls below start a machine
- * that wants a load or a dump; one that is Idle is all 0, and no call makes it:
+ * that wants a load or a dump. One that wants neither is Idle, all 0, and needs
+ * no call:
  *
  *     mop_machine machine = {.state = MOP_MACHINE_IDLE};
  */
