@@ -8,7 +8,7 @@ OUT     = target/tests
 LIB     = target/staticlib/libmop.a
 SOURCES = $(shell find crates -name '*.rt' -o -name '*.antt') crates.txt
 
-.PHONY: test run explain frames lib compare compare-rehearsal bench needs header layout examples guards sanitize lint driver driver-test line-bench simh
+.PHONY: test run explain frames lib compare compare-rehearsal bench needs trusted trusted-list header layout examples guards sanitize lint driver driver-test line-bench simh
 
 # rt ci begins by removing target/, so it comes first; its last line is repeated at the end where all else passed.
 test: needs
@@ -74,6 +74,17 @@ compare-rehearsal: $(OUT)/rehearse target/bin/rehearsal
 # Both implementations' speed, in one run.
 bench: $(OUT)/bench
 	$(OUT)/bench
+
+# What must be believed: `make trusted` writes the list into docs/TRUSTED.md, and trusted-list compares it.
+$(OUT)/trusted: $(wildcard tests/trusted/*.rs)
+	@mkdir -p $(OUT)
+	$(RUSTC) --crate-name trusted -o $@ tests/trusted/main.rs
+
+trusted: $(OUT)/trusted
+	@$< --write
+
+trusted-list: $(OUT)/trusted
+	@$<
 
 # ---- C.
 

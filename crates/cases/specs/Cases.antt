@@ -5,8 +5,8 @@ use mathlib.Core.List.{List, [], _∷_, _++_}
 use lib.ListN.{take, replicate}
 use Rattle.octets.specs.Number.{number, low}
 use Rattle.entries.specs.Entries.{next, walk, field}
-use Rattle.message.specs.Message.{least, leastIn, memoryLoadTransfer, requestLoad, parameters}
-use Rattle.message.specs.Read.{refused, message, byCode, fields, read}
+use Rattle.message.specs.Message.{memoryLoadTransfer, requestLoad, parameters}
+use Rattle.message.specs.Read.{refused, message, find, fields, read}
 use Rattle.message.specs.Write.{layout}
 use Rattle.memory.specs.Memory.{fits, bytesFrom}
 use Rattle.step.specs.Step.{Outcome, first}
@@ -73,7 +73,7 @@ pub record Cases : Type 0 where
       ≡ seen idle memory (0x0E ∷ 0x06 ∷ 0x00 ∷ 0x00 ∷ 0x00 ∷ 7 ∷ 8 ∷ 0 ∷ 0 ∷ [])
 
 pub cases : Cases
-unfolding number low least leastIn byCode fields read layout first fits bytesFrom byNumber onLoad next walk field trailerOf entryOf entries demand entriesRefusal many image hostTime step
+unfolding number low find fields read layout first fits bytesFrom byNumber onLoad next walk field trailerOf entryOf entries demand entriesRefusal many image hostTime step
 cases =
     record {
       K1 = refl;

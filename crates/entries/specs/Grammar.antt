@@ -11,7 +11,7 @@ use lib.ListN.{length}
 use Rattle.entries.specs.declared.Place.{Place}
 use Rattle.entries.specs.declared.Place.the-variants.{Kind, Size, Value, Time, Transfer, Outside, Excess}
 use Rattle.entries.specs.Entries.{listed, field, more, next, walk}
-use Rattle.octets.specs.Cases.{by-cases}
+use Rattle.octets.specs.TestLaws.{by-cases}
 use Rattle.entries.specs.Laws.{walk-value, walk-ended, Marked, marked}
 
 -- bytes of a host time from field k on, each one that its field may be, after the byte before it

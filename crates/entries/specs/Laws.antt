@@ -10,7 +10,7 @@ use borrow.Author.Tests.{eqb-true, eqb-false, ne-eqb}
 use lib.Dec.{eqb, leb, eqb·suc-zero}
 use lib.ListN.{length, getD, take, drop, length-append, take-append-drop}
 use lib.Seq.{length-take-le, take-at, drop-cons, drop-append-add}
-use Rattle.octets.specs.Cases.{by-cases}
+use Rattle.octets.specs.TestLaws.{by-cases}
 use Rattle.entries.specs.declared.Place.{Place}
 use Rattle.entries.specs.declared.Place.the-variants.{Kind, Size, Value, Time, Transfer, Outside, Excess}
 use Rattle.entries.specs.Entries.{listed, field, more, next, walk}

@@ -9,8 +9,9 @@ use lib.Dec.{eqb, ltb}
 use lib.ListN.{length, getD, take}
 use lib.Seq.{drop-drop}
 use borrow.Author.Tests.{ltb-true, ltb-false, leb-true, eqb-true, eqb-false, lt-ltb, le-ltb, eq-eqb, ne-eqb}
-use Rattle.octets.specs.Cases.{by-cases}
-use Rattle.octets.specs.Number.{Octets, part-bound}
+use Rattle.octets.specs.TestLaws.{by-cases}
+use Rattle.octets.specs.Number.{Octets}
+use Rattle.octets.specs.NumberLaws.{part-bound}
 use Rattle.image.specs.Image.{longest, most, addresses, widest, trailerOf, trailer, entryAt, entries, regions, ending, bytes, nowhere}
 use Rattle.image.specs.Image.{demand, first, trailerRefusal, entryRefusal, entriesRefusal, cutRefusal}
 use Rattle.image.specs.Image.{parts, cut, many, segment, segmentOf, noTally, surveyed, checked, noSegment, foundAs, found}

@@ -7,7 +7,7 @@ ghost use Rattle.message.specs.Write.{sent};
 ghost use Rattle.image.specs.Image.{addresses};
 ghost use Rattle.step.specs.Step.{gives, Leaves};
 ghost use Rattle.load_next.specs.Next.{fresh};
-ghost use Rattle.load_next.specs.Laws.{ahead};
+ghost use Rattle.load_next.specs.Inner.{ahead};
 ghost use Rattle.load.specs.Load.{blank, settled, sound, consistent, numbered, counted, loadFrame, loadTimer};
 ghost use Rattle.load.specs.Inner.{piece, acting, Ruled, Sendable};
 use image::Region;

@@ -9,7 +9,7 @@ use lib.ListN.{length, getD, drop, drop-of-length-le}
 use lib.Seq.{drop-cons}
 use lib.Dec.{eqb, leb}
 use borrow.Author.Tests.{leb-true}
-use Rattle.octets.specs.Cases.{both}
+use Rattle.octets.specs.TestLaws.{both}
 use Rattle.step.specs.Step.{unless}
 use Rattle.step.specs.Laws.{met, none}
 use Rattle.looptest.specs.declared.Settings.{Settings}

@@ -8,7 +8,7 @@ use native.Mathlib.Nat.{add-zero}
 use lib.ListN.{length}
 use lib.Dec.{eqb, ltb, leb}
 use borrow.Author.Tests.{eqb-true, eqb-false}
-use Rattle.octets.specs.Cases.{by-cases}
+use Rattle.octets.specs.TestLaws.{by-cases}
 use Rattle.message.specs.declared.Fields.{Fields}
 use Rattle.message.specs.Message.{Message, memoryLoadTransfer, memoryLoad, requestLoad, requestDump, dumpData, dumpComplete, loopData, loopedData, requestProgram, requestDumpService}
 use Rattle.message.specs.Read.{fields, part}

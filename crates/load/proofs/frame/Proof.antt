@@ -15,7 +15,8 @@ use Rattle.load_next.specs.declared.Settings.{Settings}
 use Rattle.load_next.specs.declared.Session.{Session}
 use Rattle.load_next.specs.declared.Next.{Next}
 use Rattle.load_next.specs.Next.{react}
-use Rattle.load_next.specs.Laws.{ahead, Bound, react-bound}
+use Rattle.load_next.specs.Laws.{Bound, react-bound}
+use Rattle.load_next.specs.Inner.{ahead}
 use Rattle.load.specs.declared.Ruling.{Ruling}
 use Rattle.load.specs.Load.{frames, refusal, does, loadFrame}
 use Rattle.load.specs.Inner.{acting, Ruled}

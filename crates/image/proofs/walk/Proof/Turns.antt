@@ -8,7 +8,7 @@ use native.Mathlib.Omega.{arith}
 use lib.ListN.{length}
 use lib.Dec.{leb, ltb}
 use borrow.Author.Tests.{ltb-true, ltb-false, leb-true, leb-false, lt-ltb, le-ltb, le-leb, lt-leb, eq-eqb, ne-eqb}
-use Rattle.octets.specs.Cases.{by-cases}
+use Rattle.octets.specs.TestLaws.{by-cases}
 use Rattle.image.specs.Image.{addresses, entryAt, entries, ending, demand, entryRefusal, entriesRefusal, parts, cut, many, segment, tallied}
 use Rattle.image.specs.Laws.{fit, entries-cons, segment-here, segment-beyond}
 use Rattle.image.specs.Walk.{Reached, region, reaching, partOf}
