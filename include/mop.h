@@ -209,7 +209,8 @@ enum mop_code {
     MOP_CODE_DUMP_DATA = 14,            /* memory dump data */
     MOP_CODE_PARAMETERS = 20,           /* parameter load with transfer */
     MOP_CODE_LOOP = 24,                 /* loop data */
-    MOP_CODE_LOOPED = 26                /* looped data */
+    MOP_CODE_LOOPED = 26,               /* looped data */
+    MOP_CODE_NONE = 255                 /* no frame: refused */
 };
 
 /* The program types of code 8. */
@@ -315,8 +316,8 @@ typedef struct mop_fields {
     uint32_t memory_size;  /* the machine's memory, in bytes */
     uint16_t count;        /* bytes asked for */
     uint16_t receipt;      /* receipt number of a loop test */
-    uint8_t refusal;       /* 0, or 1 to 4 and then all else is 0 */
-    uint8_t code;          /* MOP_CODE_.. */
+    uint8_t refusal;       /* 0, or 1 to 4: then no code, and all else 0 */
+    uint8_t code;          /* MOP_CODE_.., MOP_CODE_NONE if refused */
     uint8_t number;        /* number of the load */
     uint8_t error;         /* 0 for none */
     uint8_t device;        /* device type */

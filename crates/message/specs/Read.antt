@@ -51,8 +51,9 @@ columns refusal code number error device format program form processor compatibi
       compatibility = compatibility;
     }
 
+-- a refused frame has code 255, which no frame has
 abbrev pub refusedFields : ℕ → Fields
-refusedFields refusal = columns refusal 0 0 0 0 0 0 0 0 0 0 0 0 0 0 0 0 0 0
+refusedFields refusal = columns refusal 255 0 0 0 0 0 0 0 0 0 0 0 0 0 0 0 0 0
 
 abbrev pub memoryLoadTransferFields : List ℕ → Fields
 memoryLoadTransferFields s = columns 0 0 (byte s 1) 0 0 0 0 0 0 0 0 0 (word 4 s 2) (lastWord s) 0 6 (length s - 10) 0 0

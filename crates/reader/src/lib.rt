@@ -39,12 +39,13 @@ fn of_code(code: u8) -> Fields
     f
 }
 
-// A refused frame.
+// A refused frame: no code.
 fn refused(refusal: u8) -> Fields
     ensures { λ r. ⌜ r ≡ refusedFields refusal ⌝ }
 {
     let mut f = BLANK;
     f.refusal = refusal;
+    f.code = 255;
     f
 }
 
