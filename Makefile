@@ -135,7 +135,7 @@ examples: $(OUT)/load_and_dump $(OUT)/page
 	$(call PRINTS,$(OUT)/load_and_dump)
 	$(OUT)/page
 
-# Every call between guard pages, and wrong calls that the test must find.
+# Every call between guard pages, and wrong calls that the test must find; every number of the header, and wrong ones.
 GUARDS = main check lent make steps reading writing images machine load dump looping
 
 $(OUT)/guards_%.o: tests/c/%.c $(wildcard tests/c/*.h) include/mop.h
@@ -148,6 +148,7 @@ $(OUT)/guards: $(GUARDS:%=$(OUT)/guards_%.o) $(LIB)
 guards: header layout $(OUT)/guards
 	$(OUT)/guards
 	@tests/c/wrong.sh $(OUT) $(LIB)
+	@tests/c/numbers.sh $(OUT) $(LIB)
 
 # The C programs with the address and undefined behaviour sanitizers, then plain under valgrind, where there is one,
 # with a smaller count.

@@ -190,10 +190,10 @@ enum mop_limit {
  * of 1,500. The calls do not know of it: a driver there keeps its settings to
  * these. */
 enum mop_ethernet_limit {
-    MOP_ETHERNET_FRAME_MOST = MOP_FRAME_MOST - 2,         /* 1,498 */
-    MOP_ETHERNET_SEGMENT_MOST = MOP_SEGMENT_MOST - 2,     /* 1,488 */
-    MOP_ETHERNET_DUMP_DATA_MOST = MOP_DUMP_DATA_MOST - 2, /* 1,493 */
-    MOP_ETHERNET_LOOP_DATA_MOST = MOP_LOOP_DATA_MOST - 2  /* 1,495 */
+    MOP_ETHERNET_FRAME_MOST = 1498,
+    MOP_ETHERNET_SEGMENT_MOST = 1488,
+    MOP_ETHERNET_DUMP_DATA_MOST = 1493,
+    MOP_ETHERNET_LOOP_DATA_MOST = 1495
 };
 
 /* The codes, a frame's first byte. Each has the writer of its name. */
@@ -505,7 +505,8 @@ typedef struct mop_machine_settings {
 
 /* The machine's record. A number that the state does not use is not looked at;
  * on entering a state such numbers become 0. Two calls below start a machine
- * that wants a load or a dump; one that is Idle is all 0, and no call makes it:
+ * that wants a load or a dump. One that wants neither is Idle, all 0, and needs
+ * no call:
  *
  *     mop_machine machine = {.state = MOP_MACHINE_IDLE};
  */

@@ -2,8 +2,9 @@
 //! source, as text: each exported call's parameters and answer, and each
 //! struct's fields, by name, type and order. A struct of the source is the one
 //! that the header has in the same place. The codes of its enum are those at
-//! the writers, and the image drawn in it is the rehearsal's first one. Ends
-//! with 1 on any difference.
+//! the writers, the image drawn in it is the rehearsal's first one, and a number
+//! of its comments with a comma in it is that of a name. Ends with 1 on any
+//! difference.
 //!
 //! header --fields [FILE]: prints a line for each struct and each field, for
 //! tests/layout/layout.c.
@@ -35,6 +36,7 @@ fn main() -> ExitCode {
     let mut different = differences("a call or struct", &header, &source);
     different += differences("a code", &codes(&whole), &written_codes(&whole));
     different += differences("the image", &image, &first_image());
+    different += unnamed(&whole);
     let calls = source.len() - structs;
     println!("header: {calls} calls and {structs} structs, compared with the source");
     ExitCode::from(u8::from(different > 0))
@@ -139,6 +141,23 @@ fn first_image() -> Parts {
     let text = text("examples/first.txt");
     let line = text.lines().nth(1).unwrap_or("");
     Parts::from([("bytes".to_string(), vec![line.to_string()])])
+}
+
+/// How many numbers such as 1,490 are neither that of a name nor the number of
+/// addresses; prints them.
+fn unnamed(text: &str) -> usize {
+    let named = text.lines().filter_map(|line| line.split_once(" = "));
+    let named = named.map(|(_, rest)| rest.split([',', ' ']).next().unwrap_or(""));
+    let named: BTreeSet<&str> = named.chain(["4294967296"]).collect();
+    let not_digit = |letter: char| !letter.is_ascii_digit() && letter != ',';
+    let numbers = text.split(not_digit).map(|word| word.trim_matches(','));
+    let unnamed =
+        |number: &&str| number.contains(',') && !named.contains(number.replace(',', "").as_str());
+    let unnamed: Vec<&str> = numbers.filter(unnamed).collect();
+    for number in &unnamed {
+        println!("DIFFERENCE: {number} in a comment is the number of no name");
+    }
+    unnamed.len()
 }
 
 fn header(text: &str) -> Parts {
