@@ -8,7 +8,7 @@ OUT     = target/tests
 LIB     = target/staticlib/libmop.a
 SOURCES = $(shell find crates -name '*.rt' -o -name '*.antt') crates.txt
 
-.PHONY: test run explain frames lib compare compare-rehearsal bench needs trusted trusted-list header layout examples guards sanitize lint driver driver-sanitized driver-test line-bench simh
+.PHONY: test run explain frames lib compare compare-rehearsal bench needs trusted trusted-list header layout examples guards sanitize lint driver driver-sanitized fuzz driver-test line-bench simh
 
 # rt ci begins by removing target/, so it comes first; its last line is repeated at the end where all else passed.
 test: needs
@@ -162,7 +162,7 @@ sanitize: $(OUT)/guards $(OUT)/load_and_dump $(OUT)/page driver-sanitized
 	$(OUT)/guards_sanitized
 	$(call PRINTS,$(OUT)/load_and_dump_sanitized)
 	$(OUT)/page_sanitized
-	for test in $(SANITIZED_TESTS); do DRIVER_PROGRAMS=$(SANITIZED) bash tests/driver/$$test || [ $$? = 77 ] || exit 1; done
+	for test in $(SANITIZED_TESTS); do DRIVER_PROGRAMS=$(CURDIR)/$(SANITIZED) bash tests/driver/$$test || [ $$? = 77 ] || exit 1; done
 	@command -v valgrind >/dev/null || { echo "sanitize: there is no valgrind"; exit 0; }; set -ex; \
 	$(VALGRIND) $(OUT)/guards 4; \
 	$(call PRINTS,$(VALGRIND) $(OUT)/load_and_dump); \
@@ -196,15 +196,16 @@ $(DRIVER)/%.o: driver/%.c $(wildcard driver/*.h) include/mop.h
 $(PROGRAMS:%=$(DRIVER)/%): %: %.o $(PARTS:%=$(DRIVER)/%.o) $(LIB)
 	@gcc -o $@ $^
 
-$(DRIVER)/probe: tests/driver/probe.c $(PARTS:%=$(DRIVER)/%.o) $(LIB)
+# What only the tests need.
+$(DRIVER)/probe $(DRIVER)/digest: $(DRIVER)/%: tests/driver/%.c $(PARTS:%=$(DRIVER)/%.o) $(LIB)
 	@$(DRIVER_CC) -o $@ $^
 
 # The same programs with the address and undefined behaviour sanitizers, which most tests take.
-SANITIZED       = $(CURDIR)/target/sanitized
-SANITIZED_TESTS = images records veth ends
-PLAIN_TESTS     = readme rom
+SANITIZED       = target/sanitized
+SANITIZED_TESTS = images records sums veth ends
+PLAIN_TESTS     = sums readme rom
 
-driver-sanitized: $(PROGRAMS:%=$(SANITIZED)/%) $(SANITIZED)/probe
+driver-sanitized: $(PROGRAMS:%=$(SANITIZED)/%) $(SANITIZED)/digest
 
 $(SANITIZED)/%.o: driver/%.c $(wildcard driver/*.h) include/mop.h
 	@mkdir -p $(SANITIZED)
@@ -213,8 +214,26 @@ $(SANITIZED)/%.o: driver/%.c $(wildcard driver/*.h) include/mop.h
 $(PROGRAMS:%=$(SANITIZED)/%): %: %.o $(PARTS:%=$(SANITIZED)/%.o) $(LIB)
 	@gcc $(SANITIZE) -o $@ $^
 
-$(SANITIZED)/probe: tests/driver/probe.c $(PARTS:%=$(SANITIZED)/%.o) $(LIB)
+$(SANITIZED)/probe $(SANITIZED)/digest: $(SANITIZED)/%: tests/driver/%.c $(PARTS:%=$(SANITIZED)/%.o) $(LIB)
 	@$(DRIVER_CC) $(SANITIZE) -o $@ $^
+
+# Mutated files and frames, always the same ones for a SEED. tests/fuzz/wrong tries whether the fuzzer finds faults.
+FUZZ  = main slow hex image line host machine
+COUNT = 1000000
+SEED  = 1
+
+$(SANITIZED)/fuzz_line.o: driver/line.c
+$(SANITIZED)/fuzz_host.o: driver/host.c
+$(SANITIZED)/fuzz_machine.o: driver/mopmachine.c
+$(SANITIZED)/fuzz_%.o: tests/fuzz/%.c $(wildcard tests/fuzz/*.h driver/*.h) include/mop.h
+	@mkdir -p $(SANITIZED)
+	@$(DRIVER_CC) $(SANITIZE) -c -o $@ $<
+
+$(SANITIZED)/fuzz: $(FUZZ:%=$(SANITIZED)/fuzz_%.o) $(filter-out $(SANITIZED)/line.o $(SANITIZED)/host.o,$(PARTS:%=$(SANITIZED)/%.o)) $(LIB)
+	@gcc $(SANITIZE) -Wl,--wrap=complain -o $@ $^
+
+fuzz: $(SANITIZED)/fuzz
+	$< $(COUNT) $(SEED)
 
 # The simulator whose boot ROM the driver is tested with; without it that test is skipped.
 simh:
@@ -225,6 +244,6 @@ line-bench: driver
 	@bash bench/line
 
 # The driver on a line of its own; tests/run does the same.
-driver-test: driver driver-sanitized $(DRIVER)/probe simh target/bin/frames
-	@for test in $(SANITIZED_TESTS); do DRIVER_PROGRAMS=$(SANITIZED) bash tests/driver/$$test || [ $$? = 77 ] || exit 1; done
+driver-test: driver driver-sanitized $(DRIVER)/probe $(DRIVER)/digest simh target/bin/frames
+	@for test in $(SANITIZED_TESTS); do DRIVER_PROGRAMS=$(CURDIR)/$(SANITIZED) bash tests/driver/$$test || [ $$? = 77 ] || exit 1; done
 	@for test in $(PLAIN_TESTS); do bash tests/driver/$$test || [ $$? = 77 ] || exit 1; done

@@ -1,0 +1,204 @@
+/* Sessions of a host: raw frames of a machine that mostly answers well, mutated ones, those of strangers, and timers. */
+#include "../../driver/host.c" // NOLINT(bugprone-suspicious-include)
+
+#include <stdlib.h>
+
+#include "fuzz.h"
+
+#define IMAGE_LENGTH 228
+#define DUMP_LENGTH 300
+#define UNTOUCHED 0xA5
+
+typedef struct session {
+    bool dump;
+    mop_load_settings load_settings;
+    mop_load load;
+    uint8_t image[IMAGE_LENGTH];
+    mop_dump_settings dump_settings;
+    mop_dump taken;
+    uint8_t buffer[DUMP_LENGTH];
+} session;
+
+/* ---- The job --------------------------------------------------------- */
+
+static void look(void *job, line_frame *frame)
+{
+    (void)job;
+    require(frame->length <= MOP_FRAME_MOST, "a message has at most 1500 bytes");
+}
+
+static mop_written update(
+    void *job, uint8_t timer, const uint8_t *frame, size_t frame_length, uint8_t *reply, size_t reply_length)
+{
+    session *s = job;
+    if (s->dump)
+        return mop_dump_update(
+            s->dump_settings, &s->taken, timer, frame, frame_length, s->buffer, DUMP_LENGTH, reply, reply_length);
+    return mop_load_update(
+        s->load_settings, &s->load, timer, s->image, IMAGE_LENGTH, frame, frame_length, reply, reply_length);
+}
+
+static bool would_begin(const void *job, const line_frame *frame)
+{
+    session trial = *(const session *)job;
+    uint8_t reply[MOP_FRAME_MOST];
+    trial.load = mop_load_start();
+    trial.taken = mop_dump_start();
+    update(&trial, 0, frame->bytes, frame->length, reply, sizeof reply);
+    return trial.dump ? trial.taken.waiting == 0 : trial.load.waiting == 0;
+}
+
+static host_stage stage_of(const void *job)
+{
+    const session *s = job;
+    return s->dump ? host_stage_of(s->taken.waiting, s->taken.verdict, s->taken.filled)
+                   : host_stage_of(s->load.waiting, s->load.verdict, s->load.position);
+}
+
+static void nothing(void *job)
+{
+    (void)job;
+}
+
+static const host_job job_calls = {look, update, would_begin, stage_of, nothing};
+
+/* ---- The machine's side ---------------------------------------------- */
+
+/* Memory holds at each address its lowest byte. */
+static mop_written dump_message(const session *s, uint8_t *message)
+{
+    uint8_t data[64];
+    uint32_t at = s->dump_settings.address + (uint32_t)s->taken.filled - one_in(12);
+    size_t length = 1 + below(one_in(8) ? sizeof data : s->dump_settings.request_bytes);
+    for (size_t i = 0; i < length; i++)
+        data[i] = (uint8_t)(at + i);
+    if (s->taken.waiting || one_in(12))
+        return mop_write_request_dump_service(0, 1, any_number(), 0, NULL, 0, message, MOP_FRAME_MOST);
+    return mop_write_dump_data(at, data, length, message, MOP_FRAME_MOST);
+}
+
+static mop_written load_message(const session *s, uint8_t *message)
+{
+    uint8_t next = (uint8_t)(s->load.position + 1 - one_in(12));
+    if (s->load.waiting || one_in(12))
+        return mop_write_request_program(0, 1, one_in(8) ? below(3) & 3 : MOP_PROGRAM_SYSTEM, MOP_FORM_STANDARD, NULL,
+            0, 0, NULL, 0, message, MOP_FRAME_MOST);
+    return mop_write_request_load(next, one_in(60), message, MOP_FRAME_MOST);
+}
+
+/* ---- What must hold -------------------------------------------------- */
+
+static bool same_record(const session *a, const session *b)
+{
+    const mop_load *x = &a->load, *y = &b->load;
+    const mop_dump *u = &a->taken, *v = &b->taken;
+    return x->position == y->position && x->sent == y->sent && x->repeats == y->repeats && x->waiting == y->waiting &&
+           x->verdict == y->verdict && u->filled == v->filled && u->replies == v->replies && u->sent == v->sent &&
+           u->repeats == v->repeats && u->waiting == v->waiting && u->verdict == v->verdict;
+}
+
+static void check_buffer(const session *s)
+{
+    for (size_t i = 0; i < DUMP_LENGTH; i++)
+        require(i < s->taken.filled || s->buffer[i] == UNTOUCHED, "nothing behind the bytes filled is written");
+}
+
+/* What was sent: a message of a host, to the machine; an offer of assistance to whoever asked. */
+static size_t check_sent(const host *h, const session *s, const line_frame *frame)
+{
+    sent_frame sent;
+    size_t count = 0;
+    for (; sent_next(&sent); count++) {
+        if (sent.code == MOP_CODE_VOLUNTEER && frame != NULL) {
+            require(
+                frame->multicast && memcmp(sent.to, frame->from, ADDRESS_LENGTH) == 0, "an offer goes to who asked");
+            continue;
+        }
+        require(h->named && memcmp(sent.to, h->machine, ADDRESS_LENGTH) == 0, "a frame goes to the machine");
+        require(s->dump ? sent.code == MOP_CODE_REQUEST_DUMP || sent.code == MOP_CODE_DUMP_COMPLETE
+                        : sent.code == MOP_CODE_LOAD || sent.code == MOP_CODE_LOAD_TRANSFER,
+            "a frame is one of a load or of a dump");
+    }
+    require(count <= 1, "one frame at most answers one");
+    return count;
+}
+
+static void hand_frame(host *h, session *s)
+{
+    uint8_t message[MOP_FRAME_MOST];
+    line_frame frame;
+    const session before = *s;
+    mop_written written = s->dump ? dump_message(s, message) : load_message(s, message);
+    require(written.refusal == MOP_ACCEPTED, "the fuzzer's own message is good");
+    raw_frame(message, written.length);
+    contents raw = exact();
+    bool taken = line_cut(&h->line, &raw, &frame);
+    free(raw.bytes);
+    if (!taken)
+        return;
+    bool foreign = h->named && memcmp(frame.from, h->machine, ADDRESS_LENGTH) != 0;
+    bool readable = mop_read(frame.bytes, frame.length).refusal == MOP_ACCEPTED;
+    require(take(h, &frame) == 0, "no frame ends a session by an error");
+    size_t count = check_sent(h, s, &frame);
+    require(!foreign || (count == 0 && same_record(&before, s)), "a stranger's frame does nothing");
+    require((readable && !frame.multicast) || same_record(&before, s), "the record is as it was");
+    require(readable || count == 0, "a frame that cannot be read is not answered");
+}
+
+/* Only a session that has begun has a timer. */
+static void run_timer(host *h, const session *s)
+{
+    if (stage_of(s) == HOST_WAITING)
+        return;
+    require(silence(h) == 0, "a timer ends no session by an error");
+    check_sent(h, s, NULL);
+}
+
+/* ---- The session ----------------------------------------------------- */
+
+/* 200 bytes at address 0x100, started there. */
+static void make_session(session *s)
+{
+    static const uint8_t rest[] = {
+        0, 1, 0, 0, 0, 0, 0, 0, 200, 0, 0, 0, 200, 0, 0, 0, 1, 0, 0, 0, 0, 1, 0, 0, 228, 0, 0, 0};
+    memset(s, 0, sizeof *s);
+    memset(s->buffer, UNTOUCHED, sizeof s->buffer);
+    memcpy(s->image + IMAGE_LENGTH - sizeof rest, rest, sizeof rest);
+    s->load = mop_load_start();
+    s->taken = mop_dump_start();
+    s->load_settings = (mop_load_settings){.segment_size = 10 + below(200), .repeats = below(8)};
+    s->dump_settings = (mop_dump_settings){
+        .length = DUMP_LENGTH, .address = below(1000), .request_bytes = 20 + below(40), .repeats = below(8)};
+}
+
+static bool fuzz_session(bool dump)
+{
+    static host h;
+    static session s;
+    memset(&h, 0, sizeof h);
+    make_session(&s);
+    s.dump = dump;
+    h.calls = &job_calls;
+    h.job = &s;
+    h.named = one_in(4);
+    memcpy(h.machine, PEER, ADDRESS_LENGTH);
+    line_make(&h.line);
+    for (unsigned event = 0; event < 80 && stage_of(&s) != HOST_OVER; event++) {
+        if (one_in(8))
+            run_timer(&h, &s);
+        else
+            hand_frame(&h, &s);
+        check_buffer(&s);
+    }
+    return s.dump ? s.taken.verdict == MOP_DUMP_FINISHED : s.load.verdict == MOP_LOAD_FINISHED;
+}
+
+bool fuzz_load(void)
+{
+    return fuzz_session(false);
+}
+
+bool fuzz_dump(void)
+{
+    return fuzz_session(true);
+}

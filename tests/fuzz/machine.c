@@ -1,0 +1,120 @@
+/* Sessions of a machine: raw frames of a host that mostly loads well, mutated ones, those of strangers, and timers. */
+#define main mopmachine_main
+#include "../../driver/mopmachine.c" // NOLINT(bugprone-suspicious-include)
+#undef main
+
+#include "fuzz.h"
+
+#define MEMORY_LENGTH 256
+
+int mopmachine_main(int count, char **words);
+
+/* The driver's own: a frame has come, the timer has run out. */
+static int hand_over(machine_end *m, line_frame *frame)
+{
+    return take(m, frame);
+}
+
+/* ---- The host's side ------------------------------------------------- */
+
+static mop_written host_message(const machine_end *m, uint8_t *message)
+{
+    static const uint8_t data[40] = {1, 2, 3, 4, 5};
+    uint32_t at = below(MEMORY_LENGTH - 20), length = below(sizeof data);
+    uint8_t number = (uint8_t)(m->machine.state == MOP_MACHINE_LOADING ? m->machine.expected - one_in(12) : 0);
+    if (memcmp(m->host, ASSISTANCE, ADDRESS_LENGTH) == 0 || one_in(12))
+        return mop_write_volunteer(message, MOP_FRAME_MOST);
+    switch (below(12)) {
+    case 0:
+        return mop_write_load_transfer(number, at, data, length, any_number(), message, MOP_FRAME_MOST);
+    case 1:
+        return mop_write_request_dump(any_number(), (uint16_t)below(2000), message, MOP_FRAME_MOST);
+    case 2:
+        return mop_write_loop(7, data, length, message, MOP_FRAME_MOST);
+    case 3:
+        return mop_write_dump_complete(message, MOP_FRAME_MOST);
+    default:
+        return mop_write_load(number, at, data, length, message, MOP_FRAME_MOST);
+    }
+}
+
+/* ---- What must hold -------------------------------------------------- */
+
+static size_t check_sent(const machine_end *m)
+{
+    sent_frame sent;
+    size_t count = 0;
+    for (; sent_next(&sent); count++) {
+        require(memcmp(sent.to, m->host, ADDRESS_LENGTH) == 0, "a frame goes to the host");
+        require(sent.code == MOP_CODE_REQUEST_PROGRAM || sent.code == MOP_CODE_REQUEST_LOAD ||
+                    sent.code == MOP_CODE_REQUEST_DUMP_SERVICE || sent.code == MOP_CODE_DUMP_DATA ||
+                    sent.code == MOP_CODE_LOOPED,
+            "a frame is one of a machine");
+    }
+    require(count <= 1, "one frame at most answers one");
+    return count;
+}
+
+/* Memory is the old one, or the old one with the frame's data laid over it. */
+static void check_memory(const machine_end *m, uint8_t *old, const line_frame *frame, bool foreign)
+{
+    mop_fields fields = mop_read(frame->bytes, frame->length);
+    bool load =
+        fields.refusal == MOP_ACCEPTED && (fields.code == MOP_CODE_LOAD || fields.code == MOP_CODE_LOAD_TRANSFER);
+    if (memcmp(old, m->memory.bytes, MEMORY_LENGTH) == 0)
+        return;
+    require(load && !foreign && (uint64_t)fields.address + fields.data_length <= MEMORY_LENGTH,
+        "memory is changed by the host's loads alone");
+    memcpy(old + fields.address, frame->bytes + fields.data_at, fields.data_length);
+    require(memcmp(old, m->memory.bytes, MEMORY_LENGTH) == 0, "a load changes memory where it says");
+}
+
+static void hand_frame(machine_end *m)
+{
+    uint8_t message[MOP_FRAME_MOST], old[MEMORY_LENGTH];
+    line_frame frame;
+    mop_written written = host_message(m, message);
+    require(written.refusal == MOP_ACCEPTED, "the fuzzer's own message is good");
+    raw_frame(message, written.length);
+    contents raw = exact();
+    bool taken = line_cut(&m->line, &raw, &frame);
+    free(raw.bytes);
+    if (!taken)
+        return;
+    const mop_machine before = m->machine;
+    bool chosen = memcmp(m->host, ASSISTANCE, ADDRESS_LENGTH) != 0;
+    bool foreign = frame.multicast || memcmp(frame.from, m->host, ADDRESS_LENGTH) != 0;
+    memcpy(old, m->memory.bytes, MEMORY_LENGTH);
+    require(hand_over(m, &frame) == 0, "no frame ends a machine by an error");
+    size_t count = check_sent(m);
+    check_memory(m, old, &frame, foreign);
+    bool same = before.state == m->machine.state && before.expected == m->machine.expected &&
+                before.error == m->machine.error && before.transfer == m->machine.transfer;
+    require(!foreign || same, "a stranger's frame leaves the machine's record");
+    require(!(foreign && chosen) || count == 0, "a stranger's frame is not answered");
+}
+
+/* ---- The session ----------------------------------------------------- */
+
+bool fuzz_machine(void)
+{
+    static uint8_t memory[MEMORY_LENGTH];
+    static machine_end m;
+    memset(memory, 0, sizeof memory);
+    memset(&m, 0, sizeof m);
+    m.common.timer = m.common.wait = 1000;
+    m.memory = (contents){memory, MEMORY_LENGTH};
+    m.settings.reply_bytes = 1 + below(DUMP_MOST);
+    m.offer = one_in(4);
+    line_make(&m.line);
+    require(start(&m) == 0 && check_sent(&m) == 1, "a machine begins with a frame");
+    for (unsigned event = 0; event < 80 && m.machine.state != MOP_MACHINE_STARTED; event++) {
+        if (one_in(8)) {
+            require(timer(&m) == 0, "a timer ends no machine by an error");
+            check_sent(&m);
+        } else {
+            hand_frame(&m);
+        }
+    }
+    return m.machine.state == MOP_MACHINE_STARTED;
+}

@@ -1,0 +1,34 @@
+/* slow.h: S-records, Intel HEX and image files as their descriptions say, one sign at a time and without a thought for
+ * speed. Nothing of the driver is used. */
+#ifndef SLOW_H
+#define SLOW_H
+
+#include <stdbool.h>
+#include <stddef.h>
+#include <stdint.h>
+
+#define CELLS_MOST 16384
+
+typedef struct cell {
+    uint64_t address;
+    uint8_t byte;
+} cell;
+
+typedef struct slow {
+    bool good;     /* every record is */
+    size_t line;   /* else the first line that is not, or 0 if only the end record lacks */
+    size_t length; /* of that line */
+    cell cells[CELLS_MOST];
+    size_t count;   /* of cells; sorted by address if it is good */
+    bool overlap;   /* two have one address */
+    size_t regions; /* runs of addresses without a gap */
+    bool starts;    /* there is a start address */
+    uint64_t start;
+} slow;
+
+void slow_text(slow *s, const uint8_t *text, size_t length, bool motorola);
+
+/* The refusal of an image file: 0 for none, else 5 to 8, for 7 and 8 with the entry, counted from 0. */
+int slow_image(const uint8_t *file, size_t length, size_t *entry);
+
+#endif
