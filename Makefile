@@ -185,7 +185,7 @@ lint: $(OUT)/page.inc $(OUT)/fields.inc
 DRIVER       = target/driver
 DRIVER_CC    = $(CC11) -D_GNU_SOURCE -Idriver
 PROGRAMS     = mopimage mopload mopdump mopmachine
-PARTS        = line words options files host progress sha256 pieces hexfiles listing
+PARTS        = line lock privileges words options files part record report host progress sha256 pieces hexfiles listing
 
 driver: $(PROGRAMS:%=$(DRIVER)/%)
 
@@ -197,15 +197,15 @@ $(PROGRAMS:%=$(DRIVER)/%): %: %.o $(PARTS:%=$(DRIVER)/%.o) $(LIB)
 	@gcc -o $@ $^
 
 # What only the tests need.
-$(DRIVER)/probe $(DRIVER)/digest: $(DRIVER)/%: tests/driver/%.c $(PARTS:%=$(DRIVER)/%.o) $(LIB)
+$(DRIVER)/probe $(DRIVER)/say $(DRIVER)/digest: $(DRIVER)/%: tests/driver/%.c $(PARTS:%=$(DRIVER)/%.o) $(LIB)
 	@$(DRIVER_CC) -o $@ $^
 
 # The same programs with the address and undefined behaviour sanitizers, which most tests take.
 SANITIZED       = target/sanitized
-SANITIZED_TESTS = images records sums veth ends
+SANITIZED_TESTS = images records sums veth ends verdicts kept rights
 PLAIN_TESTS     = sums readme rom
 
-driver-sanitized: $(PROGRAMS:%=$(SANITIZED)/%) $(SANITIZED)/digest
+driver-sanitized: $(PROGRAMS:%=$(SANITIZED)/%) $(SANITIZED)/say $(SANITIZED)/digest
 
 $(SANITIZED)/%.o: driver/%.c $(wildcard driver/*.h) include/mop.h
 	@mkdir -p $(SANITIZED)
@@ -214,7 +214,7 @@ $(SANITIZED)/%.o: driver/%.c $(wildcard driver/*.h) include/mop.h
 $(PROGRAMS:%=$(SANITIZED)/%): %: %.o $(PARTS:%=$(SANITIZED)/%.o) $(LIB)
 	@gcc $(SANITIZE) -o $@ $^
 
-$(SANITIZED)/probe $(SANITIZED)/digest: $(SANITIZED)/%: tests/driver/%.c $(PARTS:%=$(SANITIZED)/%.o) $(LIB)
+$(SANITIZED)/probe $(SANITIZED)/say $(SANITIZED)/digest: $(SANITIZED)/%: tests/driver/%.c $(PARTS:%=$(SANITIZED)/%.o) $(LIB)
 	@$(DRIVER_CC) $(SANITIZE) -o $@ $^
 
 # Mutated files and frames, always the same ones for a SEED. tests/fuzz/wrong tries whether the fuzzer finds faults.
@@ -244,6 +244,6 @@ line-bench: driver
 	@bash bench/line
 
 # The driver on a line of its own; tests/run does the same.
-driver-test: driver driver-sanitized $(DRIVER)/probe $(DRIVER)/digest simh target/bin/frames
+driver-test: driver driver-sanitized $(DRIVER)/probe $(DRIVER)/say $(DRIVER)/digest simh target/bin/frames
 	@for test in $(SANITIZED_TESTS); do DRIVER_PROGRAMS=$(CURDIR)/$(SANITIZED) bash tests/driver/$$test || [ $$? = 77 ] || exit 1; done
 	@for test in $(PLAIN_TESTS); do bash tests/driver/$$test || [ $$? = 77 ] || exit 1; done

@@ -3,6 +3,7 @@
 #include <inttypes.h>
 #include <string.h>
 
+#include "lock.h"
 #include "words.h"
 
 int host_option(host *h, int option, const char *value, uint32_t *repeats)
@@ -29,27 +30,24 @@ host_stage host_stage_of(uint8_t waiting, uint8_t verdict, uint64_t taken)
 
 int host_open(host *h)
 {
-    char own[ADDRESS_TEXT], other[ADDRESS_TEXT];
     int status = line_open(&h->line, &h->settings.line);
     if (status != 0)
         return status;
-    status = line_join(&h->line);
-    if (status != 0) {
+    h->line.alone = true;
+    status = lock_take(h->line.index, h->line.name);
+    if (status == 0)
+        status = line_join(&h->line);
+    if (status != 0)
         line_close(&h->line);
-        return status;
-    }
-    printf("Waiting on %s (%s) for a request from %s.\n", h->line.name, address_text(h->line.address, own),
-        h->named ? address_text(h->machine, other) : "any machine");
-    fflush(stdout);
-    return 0;
+    return status;
 }
 
 /* Hands a frame or the timer to the library and sends what it gives. */
 static int step(host *h, const line_frame *frame)
 {
-    uint8_t reply[MESSAGE_MOST];
-    mop_written answer = frame == NULL ? h->calls->step(h->job, 1, NULL, 0, reply, sizeof reply)
-                                       : h->calls->step(h->job, 0, frame->bytes, frame->length, reply, sizeof reply);
+    uint8_t reply[MOP_FRAME_MOST];
+    mop_written answer = frame == NULL ? h->calls->step(h->job, true, NULL, 0, reply, sizeof reply)
+                                       : h->calls->step(h->job, false, frame->bytes, frame->length, reply, sizeof reply);
     if (mop_refused_frame(answer.refusal)) {
         h->unreadable += 1;
         return 0;
@@ -66,7 +64,7 @@ static int step(host *h, const line_frame *frame)
  * asks this host alone. */
 static int volunteer(host *h, const line_frame *frame)
 {
-    uint8_t offer[MESSAGE_MOST];
+    uint8_t offer[MOP_FRAME_MOST];
     if (!h->calls->begins(h->job, frame))
         return 0;
     mop_written written = mop_write_volunteer(offer, sizeof offer);
@@ -79,8 +77,7 @@ static int take(host *h, line_frame *frame)
     if (h->named && memcmp(frame->from, h->machine, ADDRESS_LENGTH) != 0)
         return 0;
     host_stage stage = h->calls->stage(h->job);
-    if (stage == HOST_WAITING || stage == HOST_FIRST)
-        h->calls->before(h->job, frame);
+    h->calls->before(h->job, frame);
     if (frame->multicast)
         return stage == HOST_UNDER_WAY ? 0 : volunteer(h, frame);
     if (stage != HOST_WAITING)
@@ -102,22 +99,44 @@ static int silence(host *h)
         h->settings.wait);
 }
 
+/* ---- The host as the line runs it ------------------------------------ */
+
+static bool over(const void *end)
+{
+    const host *h = end;
+    return h->calls->stage(h->job) == HOST_OVER;
+}
+
+static int64_t due(const void *end)
+{
+    return ((const host *)end)->due;
+}
+
+static int on_frame(void *end, line_frame *frame)
+{
+    host *h = end;
+    int status = take(h, frame);
+    h->calls->after(h->job);
+    return status;
+}
+
+static int on_timer(void *end)
+{
+    host *h = end;
+    int status = silence(h);
+    h->calls->after(h->job);
+    return status;
+}
+
 int host_run(host *h)
 {
-    line_frame frame;
-    int status = 0;
+    static const line_end calls = {over, due, on_frame, on_timer};
+    char own[ADDRESS_TEXT], other[ADDRESS_TEXT];
+    printf("Waiting on %s (%s) for a request from %s.\n", h->line.name, address_text(h->line.address, own),
+        h->named ? address_text(h->machine, other) : "any machine");
+    fflush(stdout);
     h->due = clock_now() + (int64_t)h->settings.wait * 1000;
-    while (status == 0 && h->calls->stage(h->job) != HOST_OVER) {
-        line_event event = line_receive(&h->line, &frame, h->due);
-        if (event == LINE_FRAME)
-            status = take(h, &frame);
-        else if (event != LINE_QUIET)
-            status = line_over(event);
-        if (status == 0 && clock_now() >= h->due) /* frames that mean nothing do not stop the timer */
-            status = silence(h);
-        h->calls->show(h->job);
-    }
-    return status;
+    return line_run(&h->line, &calls, h);
 }
 
 static void tell(const char *what, const direction *d)

@@ -14,18 +14,18 @@ typedef enum host_stage { HOST_WAITING, HOST_FIRST, HOST_UNDER_WAY, HOST_OVER } 
 
 /* The load or the dump. */
 typedef struct host_job {
-    /* Looks at a message before the library does, as long as the machine has
-     * not answered; may change a request. */
+    /* Looks at a message of the machine before the library does; may change a
+     * request. */
     void (*before)(void *job, line_frame *frame);
     /* One step of the library on the job's own record. */
     mop_written (*step)(
-        void *job, uint8_t timer, const uint8_t *frame, size_t frame_length, uint8_t *reply, size_t reply_length);
+        void *job, bool timer, const uint8_t *frame, size_t frame_length, uint8_t *reply, size_t reply_length);
     /* Whether the library would begin with this message; the record stays. */
     bool (*begins)(const void *job, const line_frame *frame);
     /* Waiting; begun without an answer yet; under way; over. */
     host_stage (*stage)(const void *job);
-    /* After each step. */
-    void (*show)(void *job);
+    /* After each step: shows, and files. */
+    void (*after)(void *job);
 } host_job;
 
 typedef struct host {
@@ -55,10 +55,11 @@ int host_option(host *h, int option, const char *value, uint32_t *repeats);
 /* The stage of a record; taken counts what the machine has answered. */
 host_stage host_stage_of(uint8_t waiting, uint8_t verdict, uint64_t taken);
 
-/* Opens the line and says so. 0 or an exit status. */
+/* Opens the line, and takes it for this program alone. 0 or an exit status. */
 int host_open(host *h);
 
-/* Runs the job to its end: 0 once it is over, or an exit status. */
+/* Says that it waits, and runs the job to its end: 0 once it is over, or an exit
+ * status. */
 int host_run(host *h);
 
 /* Closes the line and tells what was lost, doubled or unreadable. */

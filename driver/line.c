@@ -2,6 +2,7 @@
 
 #include <arpa/inet.h>
 #include <errno.h>
+#include <linux/filter.h>
 #include <linux/if_packet.h>
 #include <net/if_arp.h>
 #include <net/ethernet.h>
@@ -14,12 +15,13 @@
 #include <time.h>
 #include <unistd.h>
 
+#include "privileges.h"
 #include "words.h"
 
 #define TYPE 0x6001
 #define HEADER 14
 #define SHORTEST 60
-#define LONGEST (HEADER + LENGTH_FIELD + MESSAGE_MOST)
+#define LONGEST (HEADER + LENGTH_FIELD + MOP_FRAME_MOST)
 
 const uint8_t ASSISTANCE[ADDRESS_LENGTH] = {0xAB, 0x00, 0x00, 0x01, 0x00, 0x00};
 
@@ -28,11 +30,16 @@ static int signal_fd = -1;
 
 int signals_catch(void)
 {
+    static const int ending[] = {SIGINT, SIGQUIT, SIGTERM, SIGHUP};
     sigset_t caught;
     sigemptyset(&caught);
-    sigaddset(&caught, SIGINT);
-    sigaddset(&caught, SIGTERM);
-    sigaddset(&caught, SIGHUP);
+    for (size_t i = 0; i < sizeof ending / sizeof ending[0]; i++) {
+        struct sigaction now;
+        if (sigaction(ending[i], NULL, &now) == 0 && now.sa_handler != SIG_IGN)
+            sigaddset(&caught, ending[i]);
+    }
+    signal(SIGPIPE, SIG_IGN);
+    signal(SIGXFSZ, SIG_IGN);
     sigprocmask(SIG_BLOCK, &caught, NULL);
     signal_fd = signalfd(-1, &caught, SFD_CLOEXEC);
     return signal_fd >= 0 ? 0 : complain(STATUS_OTHER, "no way to wait for signals: %s", strerror(errno));
@@ -74,17 +81,37 @@ static int ask_interface(line *l)
     if (ioctl(l->socket, SIOCGIFMTU, &ask) < 0)
         return complain(STATUS_INTERFACE, "%s: %s", l->name, strerror(errno));
     uint32_t most = ask.ifr_mtu < LENGTH_FIELD ? 0 : (uint32_t)ask.ifr_mtu - LENGTH_FIELD;
-    l->longest = most < MESSAGE_MOST ? most : MESSAGE_MOST;
+    l->longest = most < MOP_FRAME_MOST ? most : MOP_FRAME_MOST;
     if (ioctl(l->socket, SIOCGIFFLAGS, &ask) < 0 || (ask.ifr_flags & IFF_UP) == 0)
         return complain(STATUS_INTERFACE, "%s is down (ip link set %s up)", l->name, l->name);
     return 0;
 }
 
+/* Of all frames on the interface only those of MOP come to the socket, each
+ * with a word on whether it carried a VLAN tag. */
+static int filter(line *l)
+{
+    struct sock_filter only[] = {
+        BPF_STMT(BPF_LD | BPF_H | BPF_ABS, 2 * ADDRESS_LENGTH),
+        BPF_JUMP(BPF_JMP | BPF_JEQ | BPF_K, TYPE, 0, 1),
+        BPF_STMT(BPF_RET | BPF_K, LONGEST + 1),
+        BPF_STMT(BPF_RET | BPF_K, 0),
+    };
+    struct sock_fprog program = {.len = sizeof only / sizeof only[0], .filter = only};
+    int on = 1;
+    if (setsockopt(l->socket, SOL_SOCKET, SO_ATTACH_FILTER, &program, sizeof program) == 0 &&
+        setsockopt(l->socket, SOL_PACKET, PACKET_AUXDATA, &on, sizeof on) == 0)
+        return 0;
+    return complain(STATUS_INTERFACE, "%s cannot be used: %s", l->name, strerror(errno));
+}
+
+/* All protocols: so the socket is also shown what other programs on this
+ * computer send. */
 static int bind_interface(line *l)
 {
     struct sockaddr_ll at = {
         .sll_family = AF_PACKET,
-        .sll_protocol = htons(TYPE),
+        .sll_protocol = htons(ETH_P_ALL),
         .sll_ifindex = l->index,
     };
     if (bind(l->socket, (const struct sockaddr *)&at, sizeof at) == 0)
@@ -117,7 +144,11 @@ int line_open(line *l, const line_settings *settings)
     if (status == 0)
         status = ask_interface(l);
     if (status == 0)
+        status = filter(l);
+    if (status == 0)
         status = bind_interface(l);
+    if (status == 0)
+        status = privileges_drop();
     if (status == 0)
         status = open_trace(l, settings->trace);
     if (status != 0)
@@ -181,7 +212,7 @@ static void note(line *l, const uint8_t *message, size_t length)
 
 static int put(line *l, const uint8_t *frame, size_t length)
 {
-    if (send(l->socket, frame, length, 0) >= 0 || errno == ENOBUFS || errno == EAGAIN)
+    if (send(l->socket, frame, length, MSG_DONTWAIT) >= 0 || errno == ENOBUFS || errno == EAGAIN)
         return 0;
     return complain(STATUS_INTERFACE, "%s does not send: %s", l->name, strerror(errno));
 }
@@ -222,28 +253,66 @@ static bool cut(const line *l, const uint8_t *raw, size_t length, line_frame *fr
     if (memcmp(frame->from, l->address, ADDRESS_LENGTH) == 0)
         return false;
     frame->length = raw[HEADER] + ((size_t)raw[HEADER + 1] << 8);
-    if (frame->length > MESSAGE_MOST || frame->length > length - HEADER - LENGTH_FIELD)
+    if (frame->length > MOP_FRAME_MOST || frame->length > length - HEADER - LENGTH_FIELD)
         return false;
     memcpy(frame->bytes, raw + HEADER + LENGTH_FIELD, frame->length);
     return true;
 }
 
-/* Takes one frame from the socket: LINE_FRAME if it is for this end and not
- * lost, LINE_QUIET if there is none such. */
+/* Whether the frame carried a VLAN tag, which the kernel has cut out: then it
+ * is not from this line, although its addresses may be. */
+static bool tagged(struct msghdr *message)
+{
+    struct tpacket_auxdata word;
+    for (struct cmsghdr *c = CMSG_FIRSTHDR(message); c != NULL; c = CMSG_NXTHDR(message, c))
+        if (c->cmsg_level == SOL_PACKET && c->cmsg_type == PACKET_AUXDATA) {
+            memcpy(&word, CMSG_DATA(c), sizeof word);
+            return (word.tp_status & TP_STATUS_VLAN_VALID) != 0;
+        }
+    return true; /* nothing is said of it */
+}
+
+/* What one frame from the socket is: LINE_FRAME for a message for this end,
+ * LINE_QUIET for what does not matter. */
+static line_event judge(const line *l, uint8_t type, const uint8_t *raw, size_t length, line_frame *frame)
+{
+    /* A socket is never shown the frames that it sent itself. */
+    if (type == PACKET_OUTGOING)
+        return l->alone && memcmp(raw + ADDRESS_LENGTH, l->address, ADDRESS_LENGTH) == 0 ? LINE_SHARED : LINE_QUIET;
+    if (type != PACKET_HOST && type != PACKET_MULTICAST)
+        return LINE_QUIET;
+    return cut(l, raw, length, frame) ? LINE_FRAME : LINE_QUIET;
+}
+
+/* Takes one frame from the socket. */
 static line_event take(line *l, line_frame *frame)
 {
-    uint8_t raw[LONGEST + 1];
+    uint8_t raw[LONGEST + 1] = {0};
+    union {
+        char bytes[CMSG_SPACE(sizeof(struct tpacket_auxdata))];
+        struct cmsghdr aligned;
+    } beside;
     struct sockaddr_ll from = {0};
-    socklen_t size = sizeof from;
-    ssize_t got = recvfrom(l->socket, raw, sizeof raw, MSG_DONTWAIT, (struct sockaddr *)&from, &size);
+    struct iovec room = {.iov_base = raw, .iov_len = sizeof raw};
+    struct msghdr message = {.msg_name = &from,
+        .msg_namelen = sizeof from,
+        .msg_iov = &room,
+        .msg_iovlen = 1,
+        .msg_control = beside.bytes,
+        .msg_controllen = sizeof beside.bytes};
+    ssize_t got = recvmsg(l->socket, &message, MSG_DONTWAIT);
     if (got < 0 && (errno == EAGAIN || errno == EINTR))
         return LINE_QUIET;
     if (got < 0) {
         complain(STATUS_INTERFACE, "%s does not receive: %s", l->name, strerror(errno));
         return LINE_BROKEN;
     }
-    if (from.sll_pkttype == PACKET_OUTGOING || !cut(l, raw, (size_t)got, frame))
-        return LINE_QUIET;
+    return tagged(&message) ? LINE_QUIET : judge(l, from.sll_pkttype, raw, (size_t)got, frame);
+}
+
+/* A message has come: noted, and perhaps lost or doubled on purpose. */
+static line_event hand_over(line *l, const line_frame *frame)
+{
     note(l, frame->bytes, frame->length);
     int n = times(&l->in);
     l->again = n == 2;
@@ -276,14 +345,38 @@ line_event line_receive(line *l, line_frame *frame, int64_t deadline)
         line_event event = await(l, deadline);
         if (event == LINE_FRAME)
             event = take(l, frame);
+        if (event == LINE_FRAME)
+            event = hand_over(l, frame);
         if (event != LINE_QUIET || clock_now() >= deadline)
             return event;
     }
 }
 
-int line_over(line_event event)
+/* The exit status of what ends a run, with the reason said. */
+static int broken(const line *l, line_event event)
 {
     if (event == LINE_SIGNAL)
         return complain(STATUS_INTERRUPTED, "interrupted by a signal");
-    return STATUS_INTERFACE; /* line_receive has said it */
+    if (event == LINE_SHARED)
+        return complain(STATUS_SHARED,
+            "another program on this computer sends MOP frames from the address of %s: one host at a time; end that "
+            "program",
+            l->name);
+    return STATUS_INTERFACE; /* take has said it */
+}
+
+int line_run(line *l, const line_end *calls, void *end)
+{
+    line_frame frame;
+    int status = 0;
+    while (status == 0 && !calls->over(end)) {
+        line_event event = line_receive(l, &frame, calls->due(end));
+        if (event == LINE_FRAME)
+            status = calls->frame(end, &frame);
+        else if (event != LINE_QUIET)
+            status = broken(l, event);
+        if (status == 0 && !calls->over(end) && clock_now() >= calls->due(end))
+            status = calls->timer(end);
+    }
+    return status;
 }

@@ -10,9 +10,10 @@
 #include <stdint.h>
 #include <stdio.h>
 
+#include "mop.h"
+
 #define ADDRESS_LENGTH 6
 #define ADDRESS_TEXT 18 /* 08-00-2B-AA-BB-CC and its end */
-#define MESSAGE_MOST 1500
 #define LENGTH_FIELD 2
 
 /* AB-00-00-01-00-00, to which a machine sends its request */
@@ -33,7 +34,7 @@ typedef struct direction {
 } direction;
 
 typedef struct line_frame {
-    uint8_t bytes[MESSAGE_MOST];
+    uint8_t bytes[MOP_FRAME_MOST];
     size_t length;
     uint8_t from[ADDRESS_LENGTH];
     bool multicast; /* to ASSISTANCE, else to this end alone */
@@ -49,6 +50,7 @@ typedef struct line {
     direction in;
     line_frame last; /* handed over once more if again is set */
     bool again;
+    bool alone; /* no other program here may send from this address */
     FILE *trace;
 } line;
 
@@ -60,9 +62,10 @@ typedef struct line_settings {
     uint32_t twice;
 } line_settings;
 
-typedef enum line_event { LINE_FRAME, LINE_QUIET, LINE_SIGNAL, LINE_BROKEN } line_event;
+typedef enum line_event { LINE_FRAME, LINE_QUIET, LINE_SIGNAL, LINE_SHARED, LINE_BROKEN } line_event;
 
-/* Both give 0, or an exit status once they have said what is wrong. */
+/* Both give 0, or an exit status once they have said what is wrong. Opening
+ * drops the program's privileges: what it opens later, it opens as its user. */
 int line_open(line *l, const line_settings *settings);
 int line_join(line *l); /* also take frames to ASSISTANCE */
 
@@ -75,14 +78,25 @@ int line_send(line *l, const uint8_t *to, const uint8_t *message, size_t length)
 /* The next message for this end, until the clock shows the deadline. */
 line_event line_receive(line *l, line_frame *frame, int64_t deadline);
 
-/* The exit status of a signal or a broken line, with the reason said. */
-int line_over(line_event event);
+/* The end that a program is. A call that gives not 0 ends the run with it. */
+typedef struct line_end {
+    bool (*over)(const void *end);
+    int64_t (*due)(const void *end); /* when its timer runs out */
+    int (*frame)(void *end, line_frame *frame);
+    int (*timer)(void *end);
+} line_end;
+
+/* Hands frames and timers to an end until it is over: 0, or an exit status.
+ * Frames, however many come, do not keep a timer from its end. */
+int line_run(line *l, const line_end *calls, void *end);
 
 /* Milliseconds of a clock that never goes back. */
 int64_t clock_now(void);
 
-/* From now on interrupt, hangup and termination end line_receive, and nothing
- * else: a file that is being written is written. 0 or an exit status. */
+/* From now on interrupt, quit, hangup and termination end line_receive, and
+ * nothing else: a file that is being written is written. Those that were
+ * ignored stay ignored (nohup). A reader of the output who has gone, and a file
+ * that grows too long, are errors of the writing. 0 or an exit status. */
 int signals_catch(void);
 
 #endif

@@ -9,10 +9,8 @@
 #include "progress.h"
 #include "words.h"
 
-#define FILE_MOST 67108864 /* bytes read; the library refuses long before */
-#define SEGMENT_MOST 1488  /* code 0 with more is above the Ethernet limit */
-#define SEGMENT_REST 10    /* what code 0 has beside the data */
-#define PROGRAM_PLACE 3    /* of the program type in code 8 */
+#define SEGMENT_MOST (MOP_SEGMENT_MOST - LENGTH_FIELD)   /* code 0 with more is above the Ethernet limit */
+#define SEGMENT_REST (MOP_FRAME_MOST - MOP_SEGMENT_MOST) /* what code 0 has beside the data */
 
 enum { OPTION_ACCEPT = OPTION_JOB };
 
@@ -22,43 +20,73 @@ typedef struct loading {
     mop_image image;
     contents file;
     const char *path;
-    uint32_t accept; /* the type served like 2; 2 for none other */
-    bool told;       /* that a request was changed, or is not served */
+    uint32_t accept;                   /* the type served like 2; 2 for none other */
+    uint8_t asked;                     /* the type of the last request to this host */
+    bool unserved[MOP_PROGRAM_SYSTEM]; /* the types that were said not to be served */
     bool begun;
+    uint64_t resets; /* requests after the machine's first answer */
+    const host *host;
     progress progress;
 } loading;
 
 /* ---- The load as the host runs it ------------------------------------ */
 
-/* A request of the accepted type becomes one of type 2; said once. */
-static void before(void *job, line_frame *frame)
+/* The same request for an operating system. */
+static void rewrite(line_frame *frame, const mop_fields *request)
 {
-    loading *l = job;
+    line_frame old = *frame;
+    mop_written written = mop_write_request_program(request->device, request->format, MOP_PROGRAM_SYSTEM, request->form,
+        old.bytes + request->id_at, request->id_length, request->processor, old.bytes + request->data_at,
+        request->data_length, frame->bytes, sizeof frame->bytes);
+    frame->length = written.length;
+}
+
+static void tell_unserved(loading *l, const line_frame *frame, uint8_t type)
+{
     char from[ADDRESS_TEXT];
-    mop_fields request = mop_read(frame->bytes, frame->length);
-    if (request.refusal != 0 || request.code != MOP_CODE_REQUEST_PROGRAM || request.program == MOP_PROGRAM_SYSTEM)
+    if (l->unserved[type])
         return;
-    address_text(frame->from, from);
-    const char *asked = program_words(request.program);
-    if (request.program != l->accept) {
-        if (!l->told)
-            printf("%s asks for a %s (type %d), which is not served; --accept-type %d would serve it.\n", from, asked,
-                request.program, request.program);
-    } else {
-        frame->bytes[PROGRAM_PLACE] = MOP_PROGRAM_SYSTEM;
-        if (!l->told)
-            printf("%s asks for a %s (type %d): its request goes to the library as type 2 (--accept-type %d).\n", from,
-                asked, request.program, request.program);
-    }
-    l->told = true;
+    l->unserved[type] = true;
+    printf("%s asks for a %s (type %d), which is not served; --accept-type %d would serve it.\n",
+        address_text(frame->from, from), program_words(type), type, type);
     fflush(stdout);
 }
 
-static mop_written step(
-    void *job, uint8_t timer, const uint8_t *frame, size_t frame_length, uint8_t *reply, size_t reply_length)
+/* A machine that was answered and asks again has been reset. */
+static void tell_reset(loading *l, const line_frame *frame)
+{
+    char from[ADDRESS_TEXT];
+    l->resets += 1;
+    if (l->resets > 1)
+        return;
+    words_bar_end();
+    printf("%s asks for a program again: it was reset in the middle of the load.\n", address_text(frame->from, from));
+    fflush(stdout);
+}
+
+/* A request of the accepted type becomes one of type 2; show says so when it is
+ * served. */
+static void before(void *job, line_frame *frame)
 {
     loading *l = job;
-    if (timer != 0)
+    mop_fields request = mop_read(frame->bytes, frame->length);
+    if (request.refusal != MOP_ACCEPTED || request.code != MOP_CODE_REQUEST_PROGRAM)
+        return;
+    if (l->session.position > 0)
+        tell_reset(l, frame);
+    else if (request.program != MOP_PROGRAM_SYSTEM && request.program != l->accept)
+        tell_unserved(l, frame, request.program);
+    else if (request.program != MOP_PROGRAM_SYSTEM)
+        rewrite(frame, &request);
+    if (l->session.waiting)
+        l->asked = request.program;
+}
+
+static mop_written step(
+    void *job, bool timer, const uint8_t *frame, size_t frame_length, uint8_t *reply, size_t reply_length)
+{
+    loading *l = job;
+    if (timer)
         return mop_load_update_timer(l->settings, &l->session, l->file.bytes, l->file.length, reply, reply_length);
     return mop_load_update_frame(
         l->settings, &l->session, l->file.bytes, l->file.length, frame, frame_length, reply, reply_length);
@@ -67,7 +95,7 @@ static mop_written step(
 static bool begins(const void *job, const line_frame *frame)
 {
     const loading *l = job;
-    uint8_t reply[MESSAGE_MOST];
+    uint8_t reply[MOP_FRAME_MOST];
     mop_load trial = mop_load_start();
     mop_load_update_frame(
         l->settings, &trial, l->file.bytes, l->file.length, frame->bytes, frame->length, reply, sizeof reply);
@@ -80,12 +108,21 @@ static host_stage stage(const void *job)
     return host_stage_of(session->waiting, session->verdict, session->position);
 }
 
+static void tell_begun(const loading *l)
+{
+    char from[ADDRESS_TEXT];
+    if (l->asked != MOP_PROGRAM_SYSTEM)
+        printf("%s asks for a %s (type %d): its request goes to the library as type %d (--accept-type %d).\n",
+            address_text(l->host->machine, from), program_words(l->asked), l->asked, MOP_PROGRAM_SYSTEM, l->asked);
+    printf("Loading %s: %" PRIu64 " segments of up to %" PRIu32 " bytes.\n", l->path, l->image.segments,
+        l->settings.segment_size);
+}
+
 static void show(void *job)
 {
     loading *l = job;
     if (!l->begun && !l->session.waiting) {
-        printf("Loading %s: %" PRIu64 " segments of up to %" PRIu32 " bytes.\n", l->path, l->image.segments,
-            l->settings.segment_size);
+        tell_begun(l);
         l->begun = true;
     }
     progress_show(&l->progress, l->session.position);
@@ -109,6 +146,10 @@ static const char manual[] = "NAME\n"
                              "  that does so is served, and then the program ends. mopimage makes images.\n"
                              "  The last lines tell what the machine's memory holds.\n"
                              "\n"
+                             "  One host loads a machine at a time. A second mopload or mopdump on the\n"
+                             "  interface is refused. If any other program on this computer sends MOP\n"
+                             "  frames from the same address the load is broken off.\n"
+                             "\n"
                              "OPTIONS\n"
                              "  --machine ADDRESS\n"
                              "        Serve this machine alone, for example 08-00-2B-AA-BB-CC.\n"
@@ -126,7 +167,8 @@ static void help(void)
 {
     fputs(manual, stdout);
     common_help(stdout, "a machine's request");
-    words_statuses(stdout, STATUS_FINISHED, STATUS_FILE);
+    words_statuses(stdout, STATUS_FINISHED, STATUS_SHARED);
+    words_statuses(stdout, STATUS_RESET, STATUS_IN_USE);
     fputs("\n"
           "EXAMPLE\n"
           "  mopload -i eth0 --accept-type 1 -R 1 program.img\n",
@@ -139,7 +181,7 @@ static int option(int c, const char *value, host *h, loading *l)
     case 'S':
         return option_small("-S", value, 1, SEGMENT_MOST, &l->settings.segment_size);
     case OPTION_ACCEPT:
-        return option_small("--accept-type", value, 0, 2, &l->accept);
+        return option_small("--accept-type", value, MOP_PROGRAM_SECONDARY, MOP_PROGRAM_SYSTEM, &l->accept);
     default:
         return host_option(h, c, value, &l->settings.repeats);
     }
@@ -164,7 +206,7 @@ static int options(int count, char **words, host *h, loading *l)
 
 static int read_image(loading *l)
 {
-    int status = file_read(l->path, FILE_MOST, &l->file);
+    int status = file_read(l->path, (size_t)4 * MOP_FILE_MOST, &l->file);
     if (status != 0)
         return status;
     l->image = mop_image_check(l->file.bytes, l->file.length, l->settings.segment_size);
@@ -183,22 +225,34 @@ static int check_room(const host *h, const loading *l)
         h->line.name, h->line.longest, h->line.longest - SEGMENT_REST);
 }
 
-static int run(host *h, loading *l)
+/* What the machine's memory holds, and the status of it. */
+static int conclude(const loading *l, int status)
 {
-    int status = read_image(l);
-    if (status == 0)
-        status = host_open(h);
+    words_bar_end();
+    if (status == STATUS_SHARED)
+        load_shared_words(stdout);
+    else
+        load_words(stdout, &l->session, &l->image);
+    if (l->resets > 0)
+        load_reset_words(stdout, l->resets);
+    printf("%" PRIu64 " frames were sent by the session.\n", l->session.sent);
     if (status != 0)
         return status;
-    status = check_room(h, l);
-    if (status == 0) {
-        status = host_run(h);
-        words_bar_end();
-        load_words(stdout, &l->session, &l->image);
-        printf("%" PRIu64 " frames were sent by the session.\n", l->session.sent);
-    }
+    return l->resets > 0 && l->session.verdict == MOP_LOAD_FINISHED ? STATUS_RESET : verdict_status(l->session.verdict);
+}
+
+static int run(host *h, loading *l)
+{
+    int status = host_open(h);
+    if (status != 0)
+        return status;
+    status = read_image(l);
+    if (status == 0)
+        status = check_room(h, l);
+    if (status == 0)
+        status = conclude(l, host_run(h));
     host_close(h);
-    return status == 0 ? verdict_status(l->session.verdict) : status;
+    return status;
 }
 
 int main(int count, char **words)
@@ -206,6 +260,7 @@ int main(int count, char **words)
     static host h = {.settings = {.timer = 2000, .wait = 600, .help = help}, .calls = &calls};
     static loading l = {.settings = {.segment_size = 512, .repeats = 4}, .accept = MOP_PROGRAM_SYSTEM};
     h.job = &l;
+    l.host = &h;
     l.session = mop_load_start();
     words_program("mopload");
     int status = options(count, words, &h, &l);

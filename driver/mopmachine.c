@@ -10,12 +10,19 @@
 #include "options.h"
 #include "words.h"
 
-#define MEMORY_MOST 16777216
-#define DUMP_MOST 1493 /* code 14 with more is above the Ethernet limit */
-#define DUMP_REST 5    /* what code 14 has beside the data */
-#define ASKS 8         /* requests to one host without an answer, before all are asked again */
+#define DUMP_MOST (MOP_DUMP_DATA_MOST - LENGTH_FIELD)   /* code 14 with more is above the Ethernet limit */
+#define DUMP_REST (MOP_FRAME_MOST - MOP_DUMP_DATA_MOST) /* what code 14 has beside the data */
+#define ASKS 8 /* requests to one host without an answer, before all are asked again */
 
-enum { OPTION_MEMORY = OPTION_OWN, OPTION_OFFER, OPTION_FILL, OPTION_SAVE, OPTION_DEVICE, OPTION_PROCESSOR };
+enum {
+    OPTION_MEMORY = OPTION_OWN,
+    OPTION_OFFER,
+    OPTION_FILL,
+    OPTION_SAVE,
+    OPTION_FORCE,
+    OPTION_DEVICE,
+    OPTION_PROCESSOR
+};
 
 typedef struct machine_end {
     common_settings common;
@@ -23,7 +30,7 @@ typedef struct machine_end {
     mop_machine machine;
     contents memory;
     const char *fill;
-    const char *save;
+    output save; /* no path for none */
     bool offer;
     uint8_t host[ADDRESS_LENGTH]; /* whom it asks, ASSISTANCE for all */
     unsigned asked;               /* how often without an answer */
@@ -55,7 +62,7 @@ static int carry(machine_end *m, mop_machine_step step, const uint8_t *reply)
 /* The first frame of a load or of a dump. */
 static int start(machine_end *m)
 {
-    uint8_t reply[MESSAGE_MOST];
+    uint8_t reply[MOP_FRAME_MOST];
     mop_machine_step step =
         m->offer ? mop_machine_start_dump(m->settings, m->memory.bytes, m->memory.length, reply, sizeof reply)
                  : mop_machine_start_load(m->settings, m->memory.bytes, m->memory.length, reply, sizeof reply);
@@ -66,7 +73,7 @@ static int start(machine_end *m)
 
 static int timer(machine_end *m)
 {
-    uint8_t reply[MESSAGE_MOST];
+    uint8_t reply[MOP_FRAME_MOST];
     m->due = clock_now() + m->common.timer;
     m->asked += 1;
     if (asks(m) && m->asked > ASKS)
@@ -89,7 +96,7 @@ static int volunteer(machine_end *m, const line_frame *frame)
 
 static int take(machine_end *m, const line_frame *frame)
 {
-    uint8_t reply[MESSAGE_MOST];
+    uint8_t reply[MOP_FRAME_MOST];
     bool free_to_choose = memcmp(m->host, ASSISTANCE, ADDRESS_LENGTH) == 0;
     if (frame->multicast)
         return 0;
@@ -104,33 +111,41 @@ static int take(machine_end *m, const line_frame *frame)
     return carry(m, step, reply);
 }
 
-/* The timer, or the end of the wait. */
-static int silence(machine_end *m)
+/* ---- The machine as the line runs it --------------------------------- */
+
+static bool over(const void *end)
 {
+    const machine_end *m = end;
+    return m->machine.state == (m->offer ? MOP_MACHINE_IDLE : MOP_MACHINE_STARTED);
+}
+
+static int64_t due(const void *end)
+{
+    const machine_end *m = end;
+    return m->due < m->limit ? m->due : m->limit;
+}
+
+static int on_frame(void *end, line_frame *frame)
+{
+    return take(end, frame);
+}
+
+/* The timer, or the end of the wait. */
+static int on_timer(void *end)
+{
+    machine_end *m = end;
     if (clock_now() < m->limit)
         return timer(m);
     return complain(STATUS_SILENT, "no host was heard for %" PRIu32 " seconds; the machine is %s", m->common.wait,
         state_words(m->machine.state));
 }
 
-static bool over(const machine_end *m)
-{
-    return m->machine.state == (m->offer ? MOP_MACHINE_IDLE : MOP_MACHINE_STARTED);
-}
-
 static int run(machine_end *m)
 {
-    line_frame frame;
+    static const line_end calls = {over, due, on_frame, on_timer};
     m->limit = clock_now() + (int64_t)m->common.wait * 1000;
     int status = start(m);
-    while (status == 0 && !over(m)) {
-        line_event event = line_receive(&m->line, &frame, m->due < m->limit ? m->due : m->limit);
-        if (event == LINE_FRAME)
-            status = take(m, &frame);
-        else
-            status = event == LINE_QUIET ? silence(m) : line_over(event);
-    }
-    return status;
+    return status == 0 ? line_run(&m->line, &calls, m) : status;
 }
 
 /* ---- The command line ------------------------------------------------ */
@@ -139,8 +154,9 @@ static const char manual[] = "NAME\n"
                              "  mopmachine - be a machine that asks for a program or offers a dump\n"
                              "\n"
                              "SYNOPSIS\n"
-                             "  mopmachine -i INTERFACE --memory N [--offer] [--fill FILE] [--save FILE]\n"
-                             "             [-D N] [--timer MS] [--wait S] [--trace FILE]\n"
+                             "  mopmachine -i INTERFACE --memory N [--offer] [--fill FILE]\n"
+                             "             [--save FILE [--force]] [-D N] [--timer MS] [--wait S]\n"
+                             "             [--trace FILE]\n"
                              "\n"
                              "DESCRIPTION\n"
                              "  The machine end as a process, to rehearse a shift without the machine. It\n"
@@ -155,7 +171,11 @@ static const char manual[] = "NAME\n"
                              "  --fill FILE\n"
                              "        What the memory holds at first, from address 0 on; the rest is 0.\n"
                              "  --save FILE\n"
-                             "        Write the memory to FILE at the end, however it ends.\n"
+                             "        Write the memory to FILE at the end, however it ends. A file that is\n"
+                             "        there is replaced only with --force; a device, a directory and the\n"
+                             "        FILE of --fill never are.\n"
+                             "  --force\n"
+                             "        Replace the file of --save.\n"
                              "  -D N, --dump-most N\n"
                              "        Bytes of a dump reply at most, 1 to 1493. Default 1024.\n"
                              "  --device N, --processor N\n"
@@ -184,7 +204,7 @@ static int option(int c, const char *value, machine_end *m)
     int status = 0;
     switch (c) {
     case OPTION_MEMORY:
-        status = option_number("--memory", value, 1, MEMORY_MOST, &bytes);
+        status = option_number("--memory", value, 1, MOP_MEMORY_MOST, &bytes);
         m->memory.length = (size_t)bytes;
         return status;
     case OPTION_OFFER:
@@ -194,7 +214,10 @@ static int option(int c, const char *value, machine_end *m)
         m->fill = value;
         return 0;
     case OPTION_SAVE:
-        m->save = value;
+        m->save.path = value;
+        return 0;
+    case OPTION_FORCE:
+        m->save.force = true;
         return 0;
     case 'D':
         return option_small("-D", value, 1, DUMP_MOST, &m->settings.reply_bytes);
@@ -211,9 +234,9 @@ static int options(int count, char **words, machine_end *m)
 {
     static const struct option known[] = {LINE_OPTIONS, {"memory", required_argument, NULL, OPTION_MEMORY},
         {"offer", no_argument, NULL, OPTION_OFFER}, {"fill", required_argument, NULL, OPTION_FILL},
-        {"save", required_argument, NULL, OPTION_SAVE}, {"dump-most", required_argument, NULL, 'D'},
-        {"device", required_argument, NULL, OPTION_DEVICE}, {"processor", required_argument, NULL, OPTION_PROCESSOR},
-        {NULL, 0, NULL, 0}};
+        {"save", required_argument, NULL, OPTION_SAVE}, {"force", no_argument, NULL, OPTION_FORCE},
+        {"dump-most", required_argument, NULL, 'D'}, {"device", required_argument, NULL, OPTION_DEVICE},
+        {"processor", required_argument, NULL, OPTION_PROCESSOR}, {NULL, 0, NULL, 0}};
     for (int c = 0; (c = getopt_long(count, words, "i:D:h", known, NULL)) != -1;) {
         int status = option(c, optarg, m);
         if (status != 0)
@@ -241,6 +264,16 @@ static int fill(machine_end *m)
     return status;
 }
 
+static int conclude(machine_end *m, int status)
+{
+    if (m->machine.state == MOP_MACHINE_STARTED)
+        printf("Started at 0x%08" PRIX32 ".\n", m->machine.transfer);
+    else
+        printf("The machine is %s.\n", state_words(m->machine.state));
+    int saved = m->save.path == NULL ? 0 : output_write(&m->save, m->memory.bytes, m->memory.length);
+    return status == 0 ? saved : status;
+}
+
 static int on_the_line(machine_end *m)
 {
     int status = line_open(&m->line, &m->common.line);
@@ -248,14 +281,15 @@ static int on_the_line(machine_end *m)
         return status;
     if (m->settings.reply_bytes + DUMP_REST > m->line.longest)
         m->settings.reply_bytes = m->line.longest - DUMP_REST;
-    status = run(m);
+    m->save.inputs = &m->fill;
+    m->save.inputs_count = m->fill != NULL;
+    status = m->save.path == NULL ? 0 : output_check(&m->save);
+    if (status == 0)
+        status = fill(m);
+    if (status == 0)
+        status = conclude(m, run(m));
     line_close(&m->line);
-    if (m->machine.state == MOP_MACHINE_STARTED)
-        printf("Started at 0x%08" PRIX32 ".\n", m->machine.transfer);
-    else
-        printf("The machine is %s.\n", state_words(m->machine.state));
-    int saved = m->save == NULL ? 0 : file_write(m->save, m->memory.bytes, m->memory.length);
-    return status == 0 ? saved : status;
+    return status;
 }
 
 int main(int count, char **words)
@@ -265,8 +299,6 @@ int main(int count, char **words)
     int status = options(count, words, &m);
     if (status == 0)
         status = signals_catch();
-    if (status == 0)
-        status = fill(&m);
     if (status == 0)
         status = on_the_line(&m);
     free(m.memory.bytes);

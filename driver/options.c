@@ -49,6 +49,17 @@ int option_small(const char *name, const char *text, uint32_t least, uint32_t mo
     return status;
 }
 
+int option_mode(const char *name, const char *text, mode_t *mode)
+{
+    char *end = NULL;
+    unsigned long value = strtoul(text, &end, 8);
+    size_t length = strlen(text);
+    if (length < 3 || length > 4 || !isdigit((unsigned char)text[0]) || *end != '\0' || value > 0777)
+        return complain(STATUS_USAGE, "%s: '%s' is no mode (write three octal digits, as for chmod: 640)", name, text);
+    *mode = (mode_t)value;
+    return 0;
+}
+
 int option_address(const char *name, const char *text, uint8_t *address)
 {
     bool good = strlen(text) == ADDRESS_TEXT - 1 && (text[2] == '-' || text[2] == ':');

@@ -5,6 +5,7 @@
 #include <getopt.h>
 #include <stdbool.h>
 #include <stdint.h>
+#include <sys/types.h>
 
 #include "line.h"
 
@@ -36,6 +37,9 @@ void common_help(FILE *out, const char *waits_for);
  * bounds: 0, or an exit status with the reason said. */
 int option_number(const char *name, const char *text, uint64_t least, uint64_t most, uint64_t *number);
 int option_small(const char *name, const char *text, uint32_t least, uint32_t most, uint32_t *number);
+
+/* The permissions of a file, in octal as for chmod. */
+int option_mode(const char *name, const char *text, mode_t *mode);
 
 /* An Ethernet address, six pairs of digits with - or : between. */
 int option_address(const char *name, const char *text, uint8_t *address);

@@ -51,11 +51,15 @@ void words_statuses(FILE *out, int first, int last)
         {STATUS_UNCONFIRMED, "unconfirmed: all but the last segment is confirmed"},
         {STATUS_SILENT, "silent: nothing was heard in the time of --wait"},
         {STATUS_INTERRUPTED, "interrupted by a signal"},
+        {STATUS_SHARED, "another program on this computer sent MOP frames from the same address"},
+        {STATUS_DIFFERENT, "the two dumps of --twice are not equal, and none is filed"},
+        {STATUS_RESET, "confirmed, but the machine was reset in the middle of the load"},
         {STATUS_USAGE, "the command line is wrong"},
         {STATUS_INTERFACE, "no such interface, or it cannot be used"},
         {STATUS_PERMISSION, "no permission to use the interface"},
         {STATUS_IMAGE, "the image is refused"},
         {STATUS_FILE, "a file cannot be read or written"},
+        {STATUS_IN_USE, "another mopload or mopdump uses the interface"},
     };
     if (first == STATUS_FINISHED)
         fputs("EXIT STATUS\n", out);
@@ -69,43 +73,104 @@ void words_statuses(FILE *out, int first, int last)
 const char *refusal_words(uint8_t refusal)
 {
     static const char *const words[] = {
-        "nothing is refused",
-        "the frame is empty or ends too early",
-        "bytes are left over in the frame, or it has more than 1500",
-        "the frame's code is none of the protocol's",
-        "a field of the frame has a value outside its list",
-        "the file is too short or too long (16 to 16777216 bytes), or its length field or zero field is wrong",
-        "the number of regions is not 1 to 64, or the directory does not stand where the trailer says",
-        "a region is empty, or its bytes are not in the file, or it ends above address 0xFFFFFFFF",
-        "a region begins before the end of the region before: they stand in order and do not overlap",
-        "a buffer is too short",
-        "a setting, a length or a range is outside its bounds",
+        [MOP_ACCEPTED] = "nothing is refused",
+        [MOP_REFUSED_SHORT] = "the frame is empty or ends too early",
+        [MOP_REFUSED_LONG] = "bytes are left over in the frame, or it has more than 1500",
+        [MOP_REFUSED_CODE] = "the frame's code is none of the protocol's",
+        [MOP_REFUSED_FIELD] = "a field of the frame has a value outside its list",
+        [MOP_REFUSED_FILE] =
+            "the file is too short or too long (16 to 16777216 bytes), or its length field or zero field is wrong",
+        [MOP_REFUSED_DIRECTORY] =
+            "the number of regions is not 1 to 64, or the directory does not stand where the trailer says",
+        [MOP_REFUSED_ENTRY] =
+            "a region is empty, or its bytes are not in the file, or it ends above address 0xFFFFFFFF",
+        [MOP_REFUSED_OVERLAP] =
+            "a region begins before the end of the region before: they stand in order and do not overlap",
+        [MOP_REFUSED_ROOM] = "a buffer is too short",
+        [MOP_REFUSED_RANGE] = "a setting, a length or a range is outside its bounds",
     };
     return PICK(words, refusal, "a refusal without a meaning");
 }
 
 const char *program_words(uint8_t type)
 {
-    static const char *const words[] = {"secondary loader", "tertiary loader", "operating system"};
+    static const char *const words[] = {
+        [MOP_PROGRAM_SECONDARY] = "secondary loader",
+        [MOP_PROGRAM_TERTIARY] = "tertiary loader",
+        [MOP_PROGRAM_SYSTEM] = "operating system",
+    };
     return PICK(words, type, "program of an unknown type");
 }
 
 const char *state_words(uint8_t state)
 {
-    static const char *const words[] = {"idle", "offering a dump", "requesting a program", "loading", "started"};
+    static const char *const words[] = {
+        [MOP_MACHINE_IDLE] = "idle",
+        [MOP_MACHINE_OFFERING] = "offering a dump",
+        [MOP_MACHINE_REQUESTING] = "requesting a program",
+        [MOP_MACHINE_LOADING] = "loading",
+        [MOP_MACHINE_STARTED] = "started",
+    };
     return PICK(words, state, "in an unknown state");
 }
 
+/* A verdict of a dump has the number and the meaning of a load's. */
+_Static_assert((int)MOP_DUMP_RUNNING == (int)MOP_LOAD_RUNNING && (int)MOP_DUMP_FINISHED == (int)MOP_LOAD_FINISHED &&
+                   (int)MOP_DUMP_GIVEN_UP == (int)MOP_LOAD_GIVEN_UP,
+    "the verdicts of loads and dumps");
+
 const char *verdict_words(uint8_t verdict)
 {
-    static const char *const words[] = {"running", "finished", "rejected", "given up", "unconfirmed"};
+    static const char *const words[] = {
+        [MOP_LOAD_RUNNING] = "running",
+        [MOP_LOAD_FINISHED] = "finished",
+        [MOP_LOAD_REJECTED] = "rejected",
+        [MOP_LOAD_GIVEN_UP] = "given up",
+        [MOP_LOAD_UNCONFIRMED] = "unconfirmed",
+    };
     return PICK(words, verdict, "unknown");
 }
 
 int verdict_status(uint8_t verdict)
 {
-    static const int statuses[] = {STATUS_OTHER, STATUS_FINISHED, STATUS_REJECTED, STATUS_GIVEN_UP, STATUS_UNCONFIRMED};
+    static const int statuses[] = {
+        [MOP_LOAD_RUNNING] = STATUS_OTHER,
+        [MOP_LOAD_FINISHED] = STATUS_FINISHED,
+        [MOP_LOAD_REJECTED] = STATUS_REJECTED,
+        [MOP_LOAD_GIVEN_UP] = STATUS_GIVEN_UP,
+        [MOP_LOAD_UNCONFIRMED] = STATUS_UNCONFIRMED,
+    };
     return PICK(statuses, verdict, STATUS_OTHER);
+}
+
+void load_shared_words(FILE *out)
+{
+    fputs("Broken off: two programs on this computer spoke to the machine from one address. What its memory holds is "
+          "not known; end the other program and load again.\n",
+        out);
+}
+
+void load_reset_words(FILE *out, uint64_t resets)
+{
+    fprintf(out,
+        "It asked for a program again %" PRIu64 " time%s after its first answer: it was reset in the middle of the "
+        "load, and the segments before may be gone from its memory. Load it again.\n",
+        resets, resets == 1 ? "" : "s");
+}
+
+void dump_shared_words(FILE *out)
+{
+    fputs("Two programs on this computer spoke to the machine from one address: what came may not be its memory as it "
+          "was. End the other program and dump again.\n",
+        out);
+}
+
+void dump_offers_words(FILE *out, uint64_t offers)
+{
+    fprintf(out,
+        "It offered again %" PRIu64 " time%s during the dump: if it was restarted, the file mixes two memories; dump "
+        "again and compare (--twice).\n",
+        offers, offers == 1 ? "" : "s");
 }
 
 /* A session that ended before its verdict, by a signal say. */

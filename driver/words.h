@@ -16,11 +16,15 @@ typedef enum status {
     STATUS_UNCONFIRMED = 4,
     STATUS_SILENT = 5,
     STATUS_INTERRUPTED = 6,
+    STATUS_SHARED = 7,
+    STATUS_DIFFERENT = 8,
+    STATUS_RESET = 9,
     STATUS_USAGE = 10,
     STATUS_INTERFACE = 11,
     STATUS_PERMISSION = 12,
     STATUS_IMAGE = 13,
-    STATUS_FILE = 14
+    STATUS_FILE = 14,
+    STATUS_IN_USE = 15
 } status;
 
 /* The program's name, for complain. */
@@ -40,18 +44,24 @@ void words_statuses(FILE *out, int first, int last);
 /* Why the library refused: one of the numbers of mop.h. */
 const char *refusal_words(uint8_t refusal);
 
-/* What a request program asks for: 0, 1, 2. */
+/* What a request program asks for: MOP_PROGRAM_.. */
 const char *program_words(uint8_t type);
 
-/* A machine's state: 0 to 4. */
+/* A machine's state: MOP_MACHINE_.. */
 const char *state_words(uint8_t state);
 
-/* A verdict's name (0 to 4), and the exit status of it. */
+/* A verdict's name, and the exit status of it: MOP_LOAD_.., MOP_DUMP_.. */
 const char *verdict_words(uint8_t verdict);
 int verdict_status(uint8_t verdict);
 
 /* What a verdict means for the machine's memory, in whole sentences. */
 void load_words(FILE *out, const mop_load *session, const mop_image *image);
 void dump_words(FILE *out, const mop_dump *session, const mop_dump_settings *settings);
+
+/* What casts doubt on a verdict, or takes its place. */
+void load_shared_words(FILE *out);
+void load_reset_words(FILE *out, uint64_t resets);
+void dump_shared_words(FILE *out);
+void dump_offers_words(FILE *out, uint64_t offers);
 
 #endif

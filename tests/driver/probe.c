@@ -12,7 +12,7 @@
 
 static line l;
 static uint8_t machine[ADDRESS_LENGTH];
-static uint8_t message[MESSAGE_MOST];
+static uint8_t message[MOP_FRAME_MOST];
 
 /* The next frame with a code, to this host alone or to all. */
 static bool await(uint8_t code, bool multicast, int64_t milliseconds)
@@ -36,16 +36,16 @@ static void say(mop_written written)
 static bool load(uint8_t number, uint32_t address, const uint8_t *data, size_t length)
 {
     say(mop_write_load(number, address, data, length, message, sizeof message));
-    return await(10, false, 5000);
+    return await(MOP_CODE_REQUEST_LOAD, false, 5000);
 }
 
 static bool probe(const contents *raw)
 {
     static const uint8_t filling[] = {1, 2, 3, 4};
-    if (!await(8, true, 10000))
+    if (!await(MOP_CODE_REQUEST_PROGRAM, true, 10000))
         return false;
     say(mop_write_volunteer(message, sizeof message));
-    bool good = await(8, false, 5000);
+    bool good = await(MOP_CODE_REQUEST_PROGRAM, false, 5000);
     good = good && load(0, PROGRAM, raw->bytes, raw->length);
     good = good && load(0, PROGRAM, raw->bytes, raw->length); /* 0 once more */
     good = good && load(1, ELSEWHERE, filling, sizeof filling);
@@ -53,14 +53,14 @@ static bool probe(const contents *raw)
     good = good && load(7, ELSEWHERE, filling, sizeof filling); /* a wrong number */
     good = good && load(2, ELSEWHERE, filling, sizeof filling); /* the right one all the same */
     say(mop_write_load_transfer(3, PROGRAM, NULL, 0, PROGRAM, message, sizeof message)); /* no data */
-    return good && !await(10, false, 500);                                               /* and no answer */
+    return good && !await(MOP_CODE_REQUEST_LOAD, false, 500);                            /* and no answer */
 }
 
 int main(int count, char **words)
 {
     contents raw;
     words_program("probe");
-    if (count != 4 || file_read(words[3], MESSAGE_MOST, &raw) != 0)
+    if (count != 4 || file_read(words[3], MOP_FRAME_MOST, &raw) != 0)
         return 1;
     line_settings settings = {.interface = words[1], .trace = words[2]};
     if (line_open(&l, &settings) != 0 || line_join(&l) != 0)

@@ -1,0 +1,56 @@
+/* dumping.h: a dump as mopdump runs it, and the record that tells of it. */
+#ifndef DUMPING_H
+#define DUMPING_H
+
+#include <stdbool.h>
+#include <stdint.h>
+#include <sys/types.h>
+
+#include "host.h"
+#include "mop.h"
+#include "part.h"
+#include "progress.h"
+
+/* What one session brings up. */
+typedef struct copy {
+    mop_dump session;
+    uint8_t *bytes; /* of the whole range */
+    part part;
+    uint64_t offers; /* after the machine's first answer */
+} copy;
+
+typedef struct dumping {
+    mop_dump_settings range;    /* the whole, as the command line has it */
+    mop_dump_settings settings; /* the session's: what is left of it */
+    const char *path;
+    mode_t mode;
+    bool from;       /* --from was given */
+    bool twice;      /* --twice */
+    bool resume;     /* --resume */
+    uint64_t before; /* bytes that earlier runs brought up */
+    char *earlier;   /* their record, or NULL */
+    copy copies[2];  /* the second for --twice */
+    copy *now;
+    char compared[128]; /* what --twice found */
+    mop_fields offer;   /* the machine's, once it came */
+    host *host;
+    const copy *begun; /* the last whose beginning was said, or NULL */
+    progress progress;
+} dumping;
+
+/* The bytes of the range that a copy has. */
+uint64_t dumping_came(const dumping *d, const copy *c);
+
+/* The record of a dump that is under way: true at every moment until the next
+ * is there, whatever happens. The first refuses one that is there. 0 or an exit
+ * status. */
+int report_first(const dumping *d);
+int report_under_way(const dumping *d);
+
+/* The record of a dump that has ended, and how; file has the first copy's bytes. */
+int report_end(const dumping *d, int status, const char *how, const char *file);
+
+/* The line that tells the range, up to its end. */
+void report_range(const dumping *d, FILE *out);
+
+#endif
