@@ -197,15 +197,15 @@ $(PROGRAMS:%=$(DRIVER)/%): %: %.o $(PARTS:%=$(DRIVER)/%.o) $(LIB)
 	@gcc -o $@ $^
 
 # What only the tests need.
-$(DRIVER)/probe $(DRIVER)/say $(DRIVER)/digest: $(DRIVER)/%: tests/driver/%.c $(PARTS:%=$(DRIVER)/%.o) $(LIB)
+$(DRIVER)/probe $(DRIVER)/say $(DRIVER)/digest $(DRIVER)/storm: $(DRIVER)/%: tests/driver/%.c $(PARTS:%=$(DRIVER)/%.o) $(LIB)
 	@$(DRIVER_CC) -o $@ $^
 
 # The same programs with the address and undefined behaviour sanitizers, which most tests take.
 SANITIZED       = target/sanitized
-SANITIZED_TESTS = images records sums veth ends verdicts kept rights
+SANITIZED_TESTS = images records sums veth storm ends verdicts kept rights
 PLAIN_TESTS     = sums readme rom
 
-driver-sanitized: $(PROGRAMS:%=$(SANITIZED)/%) $(SANITIZED)/say $(SANITIZED)/digest
+driver-sanitized: $(PROGRAMS:%=$(SANITIZED)/%) $(SANITIZED)/say $(SANITIZED)/digest $(SANITIZED)/storm
 
 $(SANITIZED)/%.o: driver/%.c $(wildcard driver/*.h) include/mop.h
 	@mkdir -p $(SANITIZED)
@@ -214,7 +214,7 @@ $(SANITIZED)/%.o: driver/%.c $(wildcard driver/*.h) include/mop.h
 $(PROGRAMS:%=$(SANITIZED)/%): %: %.o $(PARTS:%=$(SANITIZED)/%.o) $(LIB)
 	@gcc $(SANITIZE) -o $@ $^
 
-$(SANITIZED)/probe $(SANITIZED)/say $(SANITIZED)/digest: $(SANITIZED)/%: tests/driver/%.c $(PARTS:%=$(SANITIZED)/%.o) $(LIB)
+$(SANITIZED)/probe $(SANITIZED)/say $(SANITIZED)/digest $(SANITIZED)/storm: $(SANITIZED)/%: tests/driver/%.c $(PARTS:%=$(SANITIZED)/%.o) $(LIB)
 	@$(DRIVER_CC) $(SANITIZE) -o $@ $^
 
 # Mutated files and frames, always the same ones for a SEED. tests/fuzz/wrong tries whether the fuzzer finds faults.

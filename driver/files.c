@@ -2,13 +2,13 @@
 
 #include <errno.h>
 #include <fcntl.h>
-#include <libgen.h>
 #include <stdio.h>
 #include <stdlib.h>
 #include <string.h>
 #include <sys/stat.h>
 #include <unistd.h>
 
+#include "part.h"
 #include "words.h"
 
 static int cannot(const char *path, const char *what)
@@ -51,7 +51,7 @@ int file_read(const char *path, size_t most, contents *file)
     return status;
 }
 
-static int part_name(aside *a)
+static int name_part(aside *a)
 {
     size_t size = strlen(a->path) + sizeof ".part";
     a->part = malloc(size);
@@ -64,7 +64,7 @@ static int part_name(aside *a)
 int aside_open(aside *a, const char *path, uint64_t length)
 {
     *a = (aside){.path = path, .fd = -1};
-    int status = part_name(a);
+    int status = name_part(a);
     if (status != 0)
         return status;
     a->fd = open(a->part, O_WRONLY | O_CREAT | O_EXCL | O_CLOEXEC, 0666);
@@ -108,51 +108,15 @@ static int sync_and_close(aside *a)
     return failed == 0 ? 0 : cannot(a->part, "written");
 }
 
-static int rename_to(const aside *a, bool replace)
-{
-    if (replace)
-        return rename(a->part, a->path);
-    int failed = renameat2(AT_FDCWD, a->part, AT_FDCWD, a->path, RENAME_NOREPLACE);
-    if (failed == 0 || (errno != EINVAL && errno != ENOSYS))
-        return failed;
-    if (access(a->path, F_OK) == 0) { /* a file system without that call */
-        errno = EEXIST;
-        return -1;
-    }
-    return rename(a->part, a->path);
-}
-
-/* The name is on the disk once its directory is. */
-static void sync_directory(const char *path)
-{
-    char *copy = strdup(path);
-    if (copy == NULL)
-        return;
-    int fd = open(dirname(copy), O_RDONLY | O_DIRECTORY | O_CLOEXEC);
-    if (fd >= 0) {
-        fsync(fd);
-        close(fd);
-    }
-    free(copy);
-}
-
 int aside_finish(aside *a, bool replace)
 {
     int status = sync_and_close(a);
-    if (status == 0 && rename_to(a, replace) != 0) {
+    if (status == 0 && (replace ? rename(a->part, a->path) : rename_free(a->part, a->path)) != 0) {
         status = complain(
             STATUS_FILE, "%s cannot be named %s: %s; it is whole and stays", a->part, a->path, strerror(errno));
     } else if (status == 0) {
-        sync_directory(a->path);
+        directory_sync(a->path);
     }
-    free(a->part);
-    a->part = NULL;
-    return status;
-}
-
-int aside_leave(aside *a)
-{
-    int status = sync_and_close(a);
     free(a->part);
     a->part = NULL;
     return status;
@@ -166,19 +130,6 @@ void aside_remove(aside *a)
         unlink(a->part);
     free(a->part);
     *a = (aside){.path = a->path, .fd = -1};
-}
-
-int file_write(const char *path, const uint8_t *bytes, size_t length)
-{
-    aside a;
-    int status = aside_open(&a, path, length);
-    if (status != 0)
-        return status;
-    status = aside_write(&a, bytes, length);
-    if (status == 0)
-        return aside_finish(&a, true);
-    aside_remove(&a);
-    return status;
 }
 
 /* ---- A file that replaces nothing unasked ---------------------------- */

@@ -31,12 +31,8 @@ int aside_write(aside *a, const uint8_t *bytes, uint64_t length);
  * left alone and that is an error. */
 int aside_finish(aside *a, bool replace);
 
-/* Syncs and leaves what there is as PATH.part; or removes it. */
-int aside_leave(aside *a);
+/* Removes PATH.part. */
 void aside_remove(aside *a);
-
-/* All of it at once, replacing. */
-int file_write(const char *path, const uint8_t *bytes, size_t length);
 
 /* A file to be made at once. What has its name already is replaced only if it
  * is a regular file, force is set, and it is none of the files that were read,

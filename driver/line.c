@@ -2,6 +2,7 @@
 
 #include <arpa/inet.h>
 #include <errno.h>
+#include <fcntl.h>
 #include <linux/filter.h>
 #include <linux/if_packet.h>
 #include <net/if_arp.h>
@@ -12,6 +13,7 @@
 #include <sys/ioctl.h>
 #include <sys/signalfd.h>
 #include <sys/socket.h>
+#include <sys/stat.h>
 #include <time.h>
 #include <unistd.h>
 
@@ -38,8 +40,8 @@ int signals_catch(void)
         if (sigaction(ending[i], NULL, &now) == 0 && now.sa_handler != SIG_IGN)
             sigaddset(&caught, ending[i]);
     }
-    signal(SIGPIPE, SIG_IGN);
-    signal(SIGXFSZ, SIG_IGN);
+    (void)signal(SIGPIPE, SIG_IGN);
+    (void)signal(SIGXFSZ, SIG_IGN);
     sigprocmask(SIG_BLOCK, &caught, NULL);
     signal_fd = signalfd(-1, &caught, SFD_CLOEXEC);
     return signal_fd >= 0 ? 0 : complain(STATUS_OTHER, "no way to wait for signals: %s", strerror(errno));
@@ -119,11 +121,20 @@ static int bind_interface(line *l)
     return complain(STATUS_INTERFACE, "%s cannot be used: %s", l->name, strerror(errno));
 }
 
+/* A trace has in it what a dump has. It replaces no file; to a terminal or a
+ * pipe it may go. */
 static int open_trace(line *l, const char *path)
 {
+    struct stat there;
     if (path == NULL)
         return 0;
-    l->trace = fopen(path, "we");
+    int fd = open(path, O_WRONLY | O_CREAT | O_EXCL | O_CLOEXEC, 0600);
+    if (fd < 0 && errno == EEXIST) {
+        if (stat(path, &there) != 0 || S_ISREG(there.st_mode))
+            return complain(STATUS_FILE, "%s is there already, and a trace replaces no file", path);
+        fd = open(path, O_WRONLY | O_CLOEXEC);
+    }
+    l->trace = fd < 0 ? NULL : fdopen(fd, "w");
     if (l->trace != NULL)
         return 0;
     return complain(STATUS_FILE, "%s cannot be written: %s", path, strerror(errno));

@@ -47,7 +47,7 @@ static void program_of(pid_t process, char name[NAME_MOST])
         snprintf(name, NAME_MOST, "another program");
     name[strcspn(name, "\n")] = '\0';
     if (in != NULL)
-        fclose(in);
+        (void)fclose(in);
 }
 
 static int taken(int index, const char *interface)

@@ -224,7 +224,7 @@ static int check_earlier(dumping *d, const contents *came)
     FILE *out = fmemopen(range, sizeof range, "w");
     if (out != NULL) {
         report_range(d, out);
-        fclose(out);
+        (void)fclose(out);
     }
     if (record_find(d->earlier, range, &length) == NULL || length != 0)
         return complain(STATUS_FILE, "%s.record is of another range: --resume does not fit", d->path);
@@ -256,7 +256,7 @@ static int take_up(dumping *d)
     if (status == 0)
         status = file_read(record, RECORD_MOST, &text);
     if (status == 0)
-        status = part_again(&d->copies[0].part, d->path, d->range.length, came.length);
+        status = part_again(&d->copies[0].part, d->path, d->range.length, came.length, &d->mode);
     d->earlier = strndup(text.bytes == NULL ? "" : (const char *)text.bytes, text.length);
     if (status == 0)
         status = d->earlier == NULL ? complain(STATUS_OTHER, "no memory") : check_earlier(d, &came);
@@ -330,26 +330,35 @@ static const char *ending(const dumping *d, int status)
     }
 }
 
+/* Nothing came: all is as it was. */
+static int file_nothing(dumping *d)
+{
+    if (d->resume) {
+        printf("Nothing came: %s and its record are as they were.\n", d->copies[0].part.name);
+        return record_put(d->path, d->earlier, d->mode);
+    }
+    unmake_files(d);
+    record_remove(d->path);
+    printf("Nothing came, and no file is left.\n");
+    return 0;
+}
+
 /* What came stays beside, and is not called a dump. */
 static int file_unfinished(dumping *d, int status)
 {
-    const copy *first = &d->copies[0];
-    if (dumping_came(d, first) == 0) {
-        unmake_files(d);
-        record_remove(d->path);
-        printf("Nothing came, and no file is left.\n");
-        return 0;
-    }
-    int kept = part_keep(&d->copies[0].part);
-    if (d->twice && d->copies[1].session.filled == 0)
-        part_remove(&d->copies[1].part);
-    else if (d->twice)
-        kept |= part_keep(&d->copies[1].part);
+    copy *first = &d->copies[0], *second = &d->copies[1];
+    if (first->session.filled == 0)
+        return file_nothing(d);
+    int kept = part_keep(&first->part);
+    if (d->twice && second->session.filled == 0)
+        part_remove(&second->part);
+    else if (d->twice && kept == 0)
+        kept = part_keep(&second->part);
     int recorded = report_end(d, status, ending(d, status), first->part.name);
-    printf(
-        "There is no %s; the %" PRIu64 " bytes that came are in %s.\n", d->path, first->part.written, first->part.name);
-    if (d->now != first && d->now->session.filled > 0)
-        printf("The %" PRIu64 " bytes of the second dump are in %s.\n", d->now->part.written, d->now->part.name);
+    printf("There is no %s; of the %" PRIu64 " bytes that came %" PRIu64 " are in %s.\n", d->path,
+        dumping_came(d, first), first->part.written, first->part.name);
+    if (second->session.filled > 0)
+        printf("The %" PRIu64 " bytes of the second dump are in %s.\n", second->part.written, second->part.name);
     return kept != 0 ? kept : recorded;
 }
 

@@ -110,10 +110,11 @@ static host_stage stage(const void *job)
 
 static void tell_begun(const loading *l)
 {
-    char from[ADDRESS_TEXT];
-    if (l->asked != MOP_PROGRAM_SYSTEM)
+    if (l->asked != MOP_PROGRAM_SYSTEM) {
+        char from[ADDRESS_TEXT];
         printf("%s asks for a %s (type %d): its request goes to the library as type %d (--accept-type %d).\n",
             address_text(l->host->machine, from), program_words(l->asked), l->asked, MOP_PROGRAM_SYSTEM, l->asked);
+    }
     printf("Loading %s: %" PRIu64 " segments of up to %" PRIu32 " bytes.\n", l->path, l->image.segments,
         l->settings.segment_size);
 }

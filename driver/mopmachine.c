@@ -252,7 +252,7 @@ static int options(int count, char **words, machine_end *m)
 static int fill(machine_end *m)
 {
     contents first = {NULL, 0};
-    m->memory.bytes = calloc(m->memory.length, 1);
+    m->memory.bytes = m->memory.length == 0 ? NULL : calloc(m->memory.length, 1);
     if (m->memory.bytes == NULL)
         return complain(STATUS_OTHER, "no room for the memory");
     if (m->fill == NULL)

@@ -118,7 +118,7 @@ void common_help(FILE *out, const char *waits_for)
         "        Seconds to wait for %s. Default 600.\n"
         "  --trace FILE\n"
         "        Write every message on the line to FILE, one to a line in\n"
-        "        hexadecimal: what the program frames reads.\n"
+        "        hexadecimal: what the program frames reads. It replaces no file.\n"
         "  --drop N, --double N\n"
         "        For rehearsals: lose, or hand over twice, every Nth frame sent and\n"
         "        every Nth received.\n"

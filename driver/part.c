@@ -93,12 +93,15 @@ int part_open(part *p, const char *path, uint64_t length, mode_t mode)
     return status;
 }
 
-int part_again(part *p, const char *path, uint64_t length, uint64_t written)
+int part_again(part *p, const char *path, uint64_t length, uint64_t written, mode_t *mode)
 {
+    struct stat there;
     int status = names(p, path);
     p->written = written;
     if (status == 0)
         status = open_with(p, length, 0, 0);
+    if (status == 0 && fstat(p->fd, &there) == 0)
+        *mode = there.st_mode & 0777;
     if (status != 0)
         part_close(p);
     return status;
@@ -136,8 +139,7 @@ int part_keep(part *p)
     return complain(STATUS_FILE, "%s is not safely on the disk: %s", p->name, strerror(errno));
 }
 
-/* A name is on the disk once its directory is. */
-static void sync_directory(const char *path)
+void directory_sync(const char *path)
 {
     char *copy = strdup(path);
     if (copy == NULL)
@@ -169,7 +171,7 @@ int part_name(part *p)
     if (status != 0)
         return status;
     if (rename_free(p->name, p->path) == 0) {
-        sync_directory(p->path);
+        directory_sync(p->path);
         return 0;
     }
     p->failed = errno;

@@ -26,12 +26,15 @@ int name_is_free(const char *path, const char *advice);
 /* Renames, unless the new name is taken: 0, or -1 with errno set. */
 int rename_free(const char *from, const char *to);
 
+/* A name is on the disk once its directory is. */
+void directory_sync(const char *path);
+
 /* Makes PATH.part, empty, with room on the disk for length bytes. Refuses if
  * PATH.part is there. 0, or an exit status with the reason said. */
 int part_open(part *p, const char *path, uint64_t length, mode_t mode);
 
-/* Opens the one that is there, which has written bytes. */
-int part_again(part *p, const char *path, uint64_t length, uint64_t written);
+/* Opens the one that is there, which has written bytes, and tells its mode. */
+int part_again(part *p, const char *path, uint64_t length, uint64_t written, mode_t *mode);
 
 /* Of length bytes writes those that are not in it yet. What cannot be written
  * is tried again the next time. */

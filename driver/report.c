@@ -26,7 +26,8 @@ static void write_head(const dumping *d, const char *how, FILE *out)
     char machine[ADDRESS_TEXT], own[ADDRESS_TEXT], date[32];
     time_t now = time(NULL);
     struct tm utc;
-    strftime(date, sizeof date, "%Y-%m-%dT%H:%M:%SZ", gmtime_r(&now, &utc));
+    if (gmtime_r(&now, &utc) == NULL || strftime(date, sizeof date, "%Y-%m-%dT%H:%M:%SZ", &utc) == 0)
+        date[0] = '\0';
     fprintf(out, "dump: %s\ndate: %s\n", how, date);
     fprintf(out, "host: %s, interface %s\n", address_text(d->host->line.address, own), d->host->line.name);
     if (d->begun != NULL)
@@ -53,11 +54,14 @@ static void write_session(const copy *c, const char *which, FILE *out)
     fprintf(out, "%soffers: %" PRIu64 " after the first answer\n", which, c->offers);
 }
 
-static void write_file(const copy *c, const char *which, const char *file, FILE *out)
+static void write_file(const dumping *d, const copy *c, const char *which, const char *file, FILE *out)
 {
     char sum[SHA256_TEXT];
     sha256_text(c->bytes, (size_t)c->part.written, sum);
     fprintf(out, "%sfile: %s, %" PRIu64 " bytes\n%ssha256: %s\n", which, file, c->part.written, which, sum);
+    if (c->part.written < dumping_came(d, c))
+        fprintf(out, "%sunwritten: %" PRIu64 " bytes that came: %s\n", which, dumping_came(d, c) - c->part.written,
+            strerror(c->part.failed));
 }
 
 /* The sentences for whoever reads it. */
@@ -100,9 +104,9 @@ static void body_end(const dumping *d, int status, const char *file, FILE *out)
         write_session(d->now, "second ", out);
     if (d->compared[0] != '\0')
         fprintf(out, "twice: %s\n", d->compared);
-    write_file(&d->copies[0], "", file, out);
+    write_file(d, &d->copies[0], "", file, out);
     if (d->now == &d->copies[1] && status != 0)
-        write_file(d->now, "second ", d->now->part.name, out);
+        write_file(d, d->now, "second ", d->now->part.name, out);
     write_words(d, status, out);
 }
 
