@@ -10,7 +10,8 @@ use Rattle.message.specs.Read.{refused, message, byCode, fields, read}
 use Rattle.message.specs.Write.{layout}
 use Rattle.memory.specs.Memory.{fits, bytesFrom}
 use Rattle.step.specs.Step.{Outcome, first}
-use Rattle.image.specs.Image.{trailerOf, entryOf, entries, demand, entriesRefusal, refusal, many, regions}
+use Rattle.directory.specs.Directory.{trailerOf, entryOf, entries, demand, entriesRefusal, refusal, regions}
+use Rattle.image.specs.Image.{many}
 use Rattle.machine_next.specs.declared.Machine.{Machine}
 use Rattle.machine_next.specs.Next.{idle, loading, byNumber, onLoad}
 use Rattle.machine.specs.Machine.{machineFrame}

@@ -9,8 +9,9 @@ use lib.Dec.{eqb, leb}
 use borrow.Author.Tests.{eq-eqb, ne-eqb, le-leb, eqb-true, eqb-false}
 use Rattle.octets.specs.Number.{Octets}
 use Rattle.octets.specs.Cases.{by-cases}
-use Rattle.image.specs.Image.{cutRefusal, demand, widest}
-use Rattle.image.specs.Image.{refusal as imageRefusal}
+use Rattle.directory.specs.Directory.{demand}
+use Rattle.image.specs.Image.{cutRefusal, widest}
+use Rattle.directory.specs.Directory.{refusal as imageRefusal}
 use Rattle.image.specs.Laws.{ready}
 use Rattle.step.specs.Step.{first}
 use Rattle.machine_next.specs.declared.Machine.{Machine}

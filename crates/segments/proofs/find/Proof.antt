@@ -1,9 +1,10 @@
--- `image::find` meets its contract.
+-- `segments::find` meets its contract.
 use mathlib.Core.Path.{_∙_}
 use borrow.Author.Needs.{needs}
-use Rattle.image.specs.Laws.{found-inside, found-outside, found-refused, survey-refusal, agrees}
-use Rattle.image.proofs.find.Statement.{statement}
-use Rattle.image.proofs.find.Tie as tie
+use Rattle.image.specs.Laws.{survey-refusal, agrees}
+use Rattle.segments.specs.Laws.{found-inside, found-outside, found-refused}
+use Rattle.segments.proofs.find.Statement.{statement}
+use Rattle.segments.proofs.find.Tie as tie
 
 survey-requires : tie.Need-survey-requires
 survey-requires c κs = search needs

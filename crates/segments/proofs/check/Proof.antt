@@ -1,9 +1,9 @@
--- `image::check` meets its contract.
+-- `segments::check` meets its contract.
 use mathlib.Core.Path.{ap, _∙_}
 use borrow.Author.Needs.{needs}
-use Rattle.image.specs.Laws.{imageOf, checked-survey}
-use Rattle.image.proofs.check.Statement.{statement}
-use Rattle.image.proofs.check.Tie as tie
+use Rattle.segments.specs.Laws.{imageOf, checked-survey}
+use Rattle.segments.proofs.check.Statement.{statement}
+use Rattle.segments.proofs.check.Tie as tie
 
 survey-requires : tie.Need-survey-requires
 survey-requires c κs = search needs

@@ -1,8 +1,8 @@
--- `image::entry_refusal` meets its contract: the code asks what the definition asks, in its order.
+-- `directory::entry_refusal` meets its contract: the code asks what the definition asks, in its order.
 use borrow.Author.Needs.{needs}
-use Rattle.image.proofs.Demand.{demands}
-use Rattle.image.proofs.entry_refusal.Statement.{statement}
-use Rattle.image.proofs.entry_refusal.Tie as tie
+use Rattle.directory.proofs.Demand.{demands}
+use Rattle.directory.proofs.entry_refusal.Statement.{statement}
+use Rattle.directory.proofs.entry_refusal.Tie as tie
 
 cast-address : tie.Need-cast-address
 cast-address c = search needs

@@ -3,7 +3,7 @@ use Prim.Native.Nat.{ℕ, _≤_, _<_}
 use mathlib.Core.Path.{_≡_}
 use lib.Dec.{eqb, leb}
 use borrow.Author.Tests.{le-leb, lt-leb, eq-eqb, ne-eqb}
-use Rattle.image.specs.Image.{demand}
+use Rattle.directory.specs.Directory.{demand}
 
 pub meets-leb : (a b m n after : ℕ) → a ≤ b → m ≡ after → m ≡ demand (leb a b) n after
 unfolding demand

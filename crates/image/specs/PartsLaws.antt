@@ -7,8 +7,9 @@ use native.Mathlib.Nat.{add-div-right, div-lt-iff-lt-mul, le-div-iff-mul-le, lt-
 use native.Mathlib.Omega.{arith}
 use lib.ListN.{length, take, drop, length-take, length-drop}
 use lib.Seq.{take-add, take-all, take-nil, drop-drop}
-use Rattle.image.specs.Image.{bytes, parts, cut}
-use Rattle.image.specs.declared.Region.{Region}
+use Rattle.directory.specs.Directory.{bytes}
+use Rattle.image.specs.Image.{parts, cut}
+use Rattle.directory.specs.declared.Region.{Region}
 
 -- the number of parts without a sum above the length
 pub parts-down : (S : ℕ) (r : Region) → 1 ≤ S → 1 ≤ r .length → (r .length - 1) / S + 1 ≡ parts S r

@@ -1,8 +1,8 @@
--- `image::trailer_refusal` meets its contract: the code asks what the definition asks, in its order.
+-- `directory::trailer_refusal` meets its contract: the code asks what the definition asks, in its order.
 use borrow.Author.Needs.{needs}
-use Rattle.image.proofs.Demand.{demands}
-use Rattle.image.proofs.trailer_refusal.Statement.{statement}
-use Rattle.image.proofs.trailer_refusal.Tie as tie
+use Rattle.directory.proofs.Demand.{demands}
+use Rattle.directory.proofs.trailer_refusal.Statement.{statement}
+use Rattle.directory.proofs.trailer_refusal.Tie as tie
 
 cast-length : tie.Need-cast-length
 cast-length c = search needs
@@ -43,6 +43,9 @@ returns-6 c = search demands depth 9
 returns-7 : tie.Need-returns-7
 returns-7 c = search demands depth 9
 
+returns-8 : tie.Need-returns-8
+returns-8 c = search demands depth 9
+
 pub trailer-refusal-spec : {M : Type 1} → statement M
 trailer-refusal-spec =
     tie.close
@@ -59,4 +62,5 @@ trailer-refusal-spec =
     returns-4
     returns-5
     returns-6
-    returns-7)
+    returns-7
+    returns-8)
