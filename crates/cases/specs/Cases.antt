@@ -4,7 +4,9 @@ use mathlib.Core.Path.{_≡_, refl}
 use mathlib.Core.List.{List, [], _∷_, _++_}
 use lib.ListN.{take, replicate}
 use Rattle.octets.specs.Number.{number, low}
-use Rattle.entries.specs.Entries.{next, walk, field}
+use Rattle.entries_next.specs.Next.{next}
+use Rattle.entries.specs.Entries.{walk}
+use Rattle.host_time.specs.HostTime.{field}
 use Rattle.message.specs.Message.{least, leastIn, memoryLoadTransfer, requestLoad, parameters}
 use Rattle.message.specs.Read.{refused, message, byCode, fields, read}
 use Rattle.message.specs.Write.{layout}

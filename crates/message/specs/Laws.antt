@@ -16,8 +16,8 @@ use Rattle.octets.specs.Number.{number, low, Octets, octets-part, length-low, p
 use Rattle.octets.specs.declared.Written.{Written}
 use Rattle.octets.specs.Cases.{by-cases, both}
 use Rattle.octets.specs.Lay.{Output, written, refuse, laid, Came}
-use Rattle.entries.specs.declared.Place.{Place}
-use Rattle.entries.specs.declared.Place.the-variants.{Kind, Size, Value, Time, Transfer, Outside, Excess}
+use Rattle.entries_next.specs.declared.Place.{Place}
+use Rattle.entries_next.specs.declared.Place.the-variants.{Kind, Size, Value, Time, Transfer, Outside, Excess}
 use Rattle.entries.specs.Entries.{walk}
 use Rattle.entries.specs.Laws.{walk-ended, accepted}
 use Rattle.message.specs.Message.{Message, Row, rows, memoryLoadTransfer, memoryLoad, requestProgram, requestLoad, requestDump, requestDumpService, dumpData, dumpComplete, volunteer, parameters, loopData, loopedData, least, leastIn, exact, programListed, formListed, idLength}

@@ -6,7 +6,7 @@ ghost use mathlib.Core.Bool.{cond};
 ghost use Rattle.message.specs.Message.{least, exact};
 ghost use Rattle.message.specs.Read.{fields, byCode, refusedFields, memoryLoadTransferFields, memoryLoadFields, requestProgramFields, withId, requestLoadFields, requestDumpFields, requestDumpServiceFields, dumpDataFields, codeFields, ended, parametersFields, loopFields};
 ghost use Rattle.reader.specs.Table.{marked};
-use entries::Place;
+use entries_next::Place;
 use message::Fields;
 
 // What marks a known code in the table of codes.
