@@ -1,7 +1,7 @@
 use borrow.Author.Needs.{needs}
 use borrow.Author.Tests.{eq-eqb, ne-eqb}
-use Rattle.looptest.proofs.react.Statement.{statement}
-use Rattle.looptest.proofs.react.Tie as tie
+use Rattle.looptest_next.proofs.react.Statement.{statement}
+use Rattle.looptest_next.proofs.react.Tie as tie
 
 returns : tie.Need-returns
 returns c = rw (ne-eqb _ _ (c .if1 .taken))

@@ -1,7 +1,7 @@
 use borrow.Author.Needs.{needs}
 use borrow.Author.Tests.{eq-eqb, ne-eqb, not-true, not-false}
-use Rattle.looptest.proofs.returned.Statement.{statement}
-use Rattle.looptest.proofs.returned.Tie as tie
+use Rattle.looptest_next.proofs.returned.Statement.{statement}
+use Rattle.looptest_next.proofs.returned.Tie as tie
 
 returns : tie.Need-returns
 returns c = rw (ne-eqb _ _ (c .if1 .taken))

@@ -3,10 +3,10 @@ use mathlib.Core.Path.{_≡_, refl, sym, _∙_}
 use native.Mathlib.Omega.{arith}
 use lib.ListN.{length, drop}
 use borrow.Author.Tests.{eq-eqb, ne-eqb}
-use Rattle.looptest.specs.Loop as loop
-use Rattle.looptest.specs.Laws.{same-apart, same-on, same-end}
-use Rattle.looptest.proofs.same.Statement.{statement}
-use Rattle.looptest.proofs.same.Tie as tie
+use Rattle.looptest_next.specs.Next as loop
+use Rattle.looptest_next.specs.Laws.{same-apart, same-on, same-end}
+use Rattle.looptest_next.proofs.same.Statement.{statement}
+use Rattle.looptest_next.proofs.same.Tie as tie
 
 abbrev Inv-loop : tie.InvT-loop
 Inv-loop a b i₀ i = (i ≤ length a) × (loop.same a b ≡ loop.same (drop i a) (drop i b))
