@@ -14,7 +14,8 @@ use Rattle.message.specs.Message.{least, leastIn, dumpData}
 use Rattle.message.specs.Read.{byCode, fields, part}
 use Rattle.message.specs.Write.{layout}
 use Rattle.step.specs.Step.{first, sends}
-use Rattle.image.specs.Image.{trailerOf, entryOf, entries, demand, entriesRefusal, many, segment}
+use Rattle.directory.specs.Directory.{trailerOf, entryOf, entries, demand, entriesRefusal}
+use Rattle.image.specs.Image.{many, segment}
 use Rattle.machine_next.specs.Next.{byNumber, onLoad}
 use Rattle.load_next.specs.declared.Session.{Session}
 use Rattle.load.specs.Load.{raised}

@@ -14,8 +14,10 @@ use Rattle.message.specs.Message.{Message, memoryLoadTransfer, memoryLoad}
 use Rattle.message.specs.Read.{fields}
 use Rattle.message.specs.Write.{layout}
 use Rattle.message.specs.Laws.{load-transfer-fields, load-transfer-part, load-fields, load-part}
-use Rattle.image.specs.Image.{trailer, regions, many, segmentOf, segment, cutRefusal}
-use Rattle.image.specs.Laws.{Held, ready, many-range, file-segment, length-segment, transfer-bound}
+use Rattle.directory.specs.Directory.{trailer, regions}
+use Rattle.image.specs.Image.{many, segmentOf, segment, cutRefusal}
+use Rattle.directory.specs.Laws.{transfer-bound}
+use Rattle.image.specs.Laws.{Held, ready, many-range, file-segment, length-segment}
 use Rattle.machine_next.specs.declared.Machine.{Machine}
 use Rattle.machine_next.specs.declared.Settings.{Settings}
 use Rattle.machine_next.specs.Next.{loading, started, after, byNumber, takenAs, onLoad, react}

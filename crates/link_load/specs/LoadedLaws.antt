@@ -6,10 +6,12 @@ use mathlib.Core.Logic.{⊎-map}
 use native.Mathlib.Omega.{arith}
 use lib.ListN.{length, take, drop, getD}
 use Rattle.memory.specs.Laws.{fits-inside}
-use Rattle.image.specs.declared.Region.{Region}
-use Rattle.image.specs.Image.{trailer, regions, many, nowhere, bytes, entriesRefusal, cutRefusal}
-use Rattle.image.specs.Laws.{ready, region-fit}
-use Rattle.image.specs.Parts.{length-bytes}
+use Rattle.directory.specs.declared.Region.{Region}
+use Rattle.directory.specs.Directory.{trailer, regions, nowhere, bytes, entriesRefusal}
+use Rattle.image.specs.Image.{many, cutRefusal}
+use Rattle.image.specs.Laws.{ready}
+use Rattle.directory.specs.Laws.{region-fit}
+use Rattle.image.specs.PartsLaws.{length-bytes}
 use Rattle.load_next.specs.declared.Settings.{Settings}
 use Rattle.link.specs.MachineEnd.{End}
 use Rattle.link.specs.ByteLaws.{is-there, same-byte}

@@ -5,7 +5,8 @@ use mathlib.Core.Bool.{Bool, true, false}
 use mathlib.Core.List.{List}
 use lib.ListN.{length}
 use Rattle.memory.specs.Memory.{fits, laid}
-use Rattle.image.specs.Image.{trailer, regions, many, segmentOf}
+use Rattle.directory.specs.Directory.{trailer, regions}
+use Rattle.image.specs.Image.{many, segmentOf}
 use Rattle.step.specs.Step.{Outcome}
 use Rattle.machine_next.specs.declared.Settings.{Settings as MachineSettings}
 use Rattle.machine_next.specs.Next as machine

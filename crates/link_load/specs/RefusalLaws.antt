@@ -15,8 +15,9 @@ use Rattle.message.specs.declared.Fields.{Fields}
 use Rattle.message.specs.Read.{fields}
 use Rattle.message.specs.Write.{layout}
 use Rattle.message.specs.Laws.{request-load-fields, request-program-fields}
-use Rattle.image.specs.Image.{cutRefusal, demand, widest}
-use Rattle.image.specs.Image.{refusal as imageRefusal}
+use Rattle.image.specs.Image.{cutRefusal, widest}
+use Rattle.directory.specs.Directory.{demand}
+use Rattle.directory.specs.Directory.{refusal as imageRefusal}
 use Rattle.image.specs.Laws.{ready}
 use Rattle.step.specs.Step.{first}
 use Rattle.machine_next.specs.declared.Machine.{Machine}

@@ -10,10 +10,12 @@ use lib.ListN.{length, take, drop, getD, getElem?, take-append-drop, length-appe
 use lib.Seq.{getD-take, getD-drop, ext-getD}
 use Rattle.memory.specs.Memory.{laid}
 use Rattle.memory.specs.Laws.{length-laid, laid-joined, laid-within, laid-before, laid-behind}
-use Rattle.image.specs.declared.Region.{Region}
-use Rattle.image.specs.Image.{many, segment, parts, cut, bytes, ending, nowhere, entriesRefusal}
-use Rattle.image.specs.Parts.{joined, joined-whole, cut-address, length-bytes, parts-some}
-use Rattle.image.specs.Laws.{Fit, accepted-cons, segment-here, segment-later}
+use Rattle.directory.specs.declared.Region.{Region}
+use Rattle.directory.specs.Directory.{bytes, ending, nowhere, entriesRefusal}
+use Rattle.image.specs.Image.{many, segment, parts, cut}
+use Rattle.image.specs.PartsLaws.{joined, joined-whole, cut-address, length-bytes, parts-some}
+use Rattle.directory.specs.Laws.{Fit, accepted-cons}
+use Rattle.image.specs.Laws.{segment-here, segment-later}
 
 module _ (file : List ℕ) (S : ℕ) where
   -- the first j parts of a region laid over a memory; the first k segments of regions; whole regions

@@ -5,8 +5,9 @@ use mathlib.Core.List.{List}
 use mathlib.Core.Logic.{_⊎_}
 use mathlib.Core.Option.{some}
 use lib.ListN.{length, take, drop, getElem?}
-use Rattle.image.specs.declared.Region.{Region}
-use Rattle.image.specs.Image.{trailer, regions, many}
+use Rattle.directory.specs.declared.Region.{Region}
+use Rattle.directory.specs.Directory.{trailer, regions}
+use Rattle.image.specs.Image.{many}
 use Rattle.machine_next.specs.Next as machine
 use Rattle.load_next.specs.declared.Session.{Session}
 use Rattle.load_next.specs.declared.Settings.{Settings as LoadSettings}

@@ -6,7 +6,8 @@ use mathlib.Core.Logic.{_⊎_, ⊎-map}
 use native.Mathlib.Omega.{arith}
 use lib.ListN.{length}
 use Rattle.octets.specs.Number.{Octets}
-use Rattle.image.specs.Image.{regions, many, cutRefusal}
+use Rattle.directory.specs.Directory.{regions}
+use Rattle.image.specs.Image.{many, cutRefusal}
 use Rattle.machine_next.specs.declared.Settings.{Settings as MachineSettings}
 use Rattle.load_next.specs.declared.Session.{Session}
 use Rattle.load_next.specs.declared.Settings.{Settings as LoadSettings}

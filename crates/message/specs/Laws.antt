@@ -18,8 +18,8 @@ use Rattle.octets.specs.NumberLaws.{octets-part, length-low, part-bound, number
 use Rattle.octets.specs.declared.Written.{Written}
 use Rattle.octets.specs.TestLaws.{by-cases, both}
 use Rattle.octets.specs.Lay.{Output, written, refuse, laid, Came}
-use Rattle.entries.specs.declared.Place.{Place}
-use Rattle.entries.specs.declared.Place.the-variants.{Kind, Size, Value, Time, Transfer, Outside, Excess}
+use Rattle.entries_next.specs.declared.Place.{Place}
+use Rattle.entries_next.specs.declared.Place.the-variants.{Kind, Size, Value, Time, Transfer, Outside, Excess}
 use Rattle.entries.specs.Entries.{walk}
 use Rattle.entries.specs.Laws.{walk-ended, accepted}
 use Rattle.message.specs.Message.{Message, memoryLoadTransfer, memoryLoad, requestProgram, requestLoad, requestDump, requestDumpService, dumpData, dumpComplete, volunteer, parameters, loopData, loopedData, programListed, formListed, idLength}

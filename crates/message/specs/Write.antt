@@ -7,8 +7,8 @@ use lib.ListN.{length, drop}
 use lib.Dec.{eqb, ltb}
 use Rattle.octets.specs.Number.{low}
 use Rattle.octets.specs.Lay.{Output, written, refuse, laid}
-use Rattle.entries.specs.declared.Place.{Place}
-use Rattle.entries.specs.declared.Place.the-variants.{Kind, Size, Value, Time, Transfer, Outside, Excess}
+use Rattle.entries_next.specs.declared.Place.{Place}
+use Rattle.entries_next.specs.declared.Place.the-variants.{Kind, Size, Value, Time, Transfer, Outside, Excess}
 use Rattle.entries.specs.Entries.{walk}
 use Rattle.message.specs.Message.{Message, memoryLoadTransfer, memoryLoad, requestProgram, requestLoad, requestDump, requestDumpService, dumpData, dumpComplete, volunteer, parameters, loopData, loopedData, programListed, formListed, idLength}
 

@@ -14,7 +14,8 @@ use Rattle.message.specs.Message.{Message, memoryLoadTransfer, memoryLoad, requ
 use Rattle.message.specs.Read.{fields, part}
 use Rattle.message.specs.Write.{layout}
 use Rattle.memory.specs.Memory.{fits, bytesFrom}
-use Rattle.image.specs.Image.{trailer, segmentOf}
+use Rattle.directory.specs.Directory.{trailer}
+use Rattle.image.specs.Image.{segmentOf}
 use Rattle.step.specs.Step.{Sending, nothing, sends, Act, first, acts, ignores, gives, call}
 use Rattle.machine_next.specs.declared.Settings.{Settings as MachineSettings}
 use Rattle.machine_next.specs.declared.Machine.{Machine}
@@ -33,8 +34,8 @@ use Rattle.dump_next.specs.declared.Next.{Next as DumpNext}
 use Rattle.dump_next.specs.Next as dump
 use Rattle.dump.specs.Dump as dumps
 use Rattle.dump.specs.Dump.{dumpFrame, dumpTimer}
-use Rattle.looptest.specs.declared.Settings.{Settings as LoopSettings}
-use Rattle.looptest.specs.declared.Session.{Session as LoopSession}
+use Rattle.looptest_next.specs.declared.Settings.{Settings as LoopSettings}
+use Rattle.looptest_next.specs.declared.Session.{Session as LoopSession}
 use Rattle.looptest.specs.Loop as loop
 use Rattle.looptest.specs.Loop.{loopFrame, loopTimer}
 use Rattle.mop_steps.specs.Ignored.{Seen, loadVerdict, dumpVerdict, loopVerdict, machineState}

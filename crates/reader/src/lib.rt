@@ -4,7 +4,7 @@ ghost use Prim.Native.Nat.{_≤_};
 ghost use lib.ListN.{length};
 ghost use Rattle.message.specs.Read.{rows, find, fields, refusedFields, memoryLoadTransferFields, memoryLoadFields, requestProgramFields, withId, requestLoadFields, requestDumpFields, requestDumpServiceFields, dumpDataFields, codeFields, ended, parametersFields, loopFields};
 ghost use Rattle.reader.specs.Row.{atLeast, byRow};
-use entries::Place;
+use entries_next::Place;
 use message::Fields;
 
 // No fields.

@@ -8,7 +8,7 @@ use Rattle.octets.specs.declared.Written.{Written}
 use Rattle.octets.specs.Lay.{refused}
 use Rattle.message.specs.declared.Fields.{Fields}
 use Rattle.message.specs.Read.{fields}
-use Rattle.image.specs.Image.{addresses}
+use Rattle.directory.specs.Directory.{addresses}
 use Rattle.step.specs.Step.{Act, gives, Leaves}
 use Rattle.step.specs.Laws.{frame-call-refused, frame-refused, frame-accepted}
 use Rattle.load_next.specs.declared.Settings.{Settings}

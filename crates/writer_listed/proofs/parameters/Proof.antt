@@ -6,7 +6,7 @@ use mathlib.Core.List.{List, [], _∷_, _++_}
 use lib.ListN.{getD}
 use borrow.Author.Tests.{not-true, not-false}
 use Rattle.octets.specs.Number.{low}
-use Rattle.entries.specs.declared.Place.the-variants.{Kind}
+use Rattle.entries_next.specs.declared.Place.the-variants.{Kind}
 use Rattle.entries.specs.Entries.{walk}
 use Rattle.message.specs.Message.{parameters}
 use Rattle.message.specs.Write.{layout, whole, write}
