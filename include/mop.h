@@ -196,7 +196,8 @@ enum mop_ethernet_limit {
     MOP_ETHERNET_LOOP_DATA_MOST = 1495
 };
 
-/* The codes, a frame's first byte. Each has the writer of its name. */
+/* The codes, a frame's first byte. Each but the last has the writer of its
+ * name. */
 enum mop_code {
     MOP_CODE_LOAD_TRANSFER = 0,         /* memory load with transfer */
     MOP_CODE_DUMP_COMPLETE = 1,         /* dump complete */
@@ -283,8 +284,8 @@ enum mop_loop_verdict {
 
 /* ---- Reading a frame ------------------------------------------------- */
 
-/* A frame's fields. Those that its code does not have are 0. Look at the
- * refusal first: a refused frame has no fields.
+/* A frame's fields. Those that its code does not have are 0. A refused frame
+ * has none, and the code MOP_CODE_NONE, which no frame has.
  *
  *   code                            fields
  *    0 memory load with transfer    number, address, data, transfer

@@ -107,6 +107,7 @@ static void test_frames(void)
     demand(mop_read(NULL, 0).refusal == MOP_REFUSED_SHORT, "an empty frame");
     demand(mop_read(long_one, 2).refusal == MOP_REFUSED_LONG, "a long frame");
     demand(mop_read(&unknown, 1).refusal == MOP_REFUSED_CODE, "a code");
+    demand(mop_read(&unknown, 1).code == MOP_CODE_NONE, "no code");
     demand(
         mop_write_dump_complete(out, 0).refusal == MOP_REFUSED_ROOM, "no room");
     demand(
