@@ -80,7 +80,7 @@ impl Document {
                     if let Some(name) = part.words.iter().find(|name| !crates.contains(name)) {
                         return Err(format!("docs/TRUSTED.md: there is no crate {name}"));
                     }
-                    text += &list(found, &part.words);
+                    text += &list(found, &part.words, part.kind == "library");
                 }
                 "sums" => _ = write!(text, "\n{}.\n\n", self.sums(found)),
                 _ => text += &part.body,
@@ -89,19 +89,27 @@ impl Document {
         Ok(text)
     }
 
-    fn sum(&self, found: &[Entry], kind: &str) -> usize {
+    /// The lines of such entries as are in one kind of groups.
+    fn sum(&self, found: &[Entry], kind: &str, such: impl Fn(&Entry) -> bool) -> usize {
         let parts = self.parts.iter().filter(|part| part.kind == kind);
         let names: Vec<&String> = parts.flat_map(|part| &part.words).collect();
         let own = found
             .iter()
-            .filter(|entry| names.contains(&&place(entry).to_string()));
-        own.map(|entry| entry.lines).sum()
+            .filter(|entry| names.iter().any(|name| *name == place(entry)));
+        own.filter(|entry| such(entry))
+            .map(|entry| entry.lines)
+            .sum()
     }
 
     pub fn sums(&self, found: &[Entry]) -> String {
-        let library = self.sum(found, "library");
-        let programs = self.sum(found, "programs");
-        format!("{library} lines for the library and the link, and {programs} for the programs")
+        let outer = self.sum(found, "library", |entry| !entry.inner && !entry.statement);
+        let statements = self.sum(found, "library", |entry| entry.statement);
+        let inner = self.sum(found, "library", |entry| entry.inner);
+        let programs = self.sum(found, "programs", |_| true);
+        format!(
+            "{outer} lines of definitions for the calls for C and the theorems, {statements} of the theorems' \
+             statements, {inner} for the functions inside the library; {programs} for the programs"
+        )
     }
 }
 
@@ -111,7 +119,7 @@ fn place(entry: &Entry) -> &str {
 }
 
 /// The entries of some crates, file by file: line, count of lines, name.
-fn list(found: &[Entry], crates: &[String]) -> String {
+fn list(found: &[Entry], crates: &[String], library: bool) -> String {
     let mut text = String::from("\n");
     let mut sum = 0;
     for name in crates {
@@ -123,11 +131,13 @@ fn list(found: &[Entry], crates: &[String]) -> String {
                 path = &entry.path;
                 _ = writeln!(text, "    {path}");
             }
-            _ = writeln!(
-                text,
-                "    {:>6} {:>4}  {}",
-                entry.line, entry.lines, entry.name
-            );
+            let inside = if entry.inner && library {
+                "  (inside)"
+            } else {
+                ""
+            };
+            let (line, lines, name) = (entry.line, entry.lines, &entry.name);
+            _ = writeln!(text, "    {line:>6} {lines:>4}  {name}{inside}");
             sum += entry.lines;
         }
     }

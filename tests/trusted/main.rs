@@ -90,17 +90,31 @@ fn theorems(world: &World, document: &Document) -> Result<BTreeSet<Item>, String
     Ok(all)
 }
 
-/// All that the contracts and the theorems rest on, the theorems' statements included.
-fn found(world: &mut World, document: &Document) -> Result<Vec<Entry>, String> {
-    let theorems = theorems(world, document)?;
-    let mut todo = world.contracts();
+/// All that contracts and theorems rest on, the theorems' statements included.
+fn rest_on(
+    world: &mut World,
+    contracts: BTreeSet<Item>,
+    theorems: &BTreeSet<Item>,
+) -> BTreeSet<Item> {
+    let mut todo = contracts;
     todo.extend(theorems.iter().cloned());
     let mut seen: BTreeSet<Item> = BTreeSet::new();
-    let mut entries = Vec::new();
     while let Some(item) = todo.pop_first() {
-        if !seen.insert(item.clone()) {
-            continue;
+        if seen.insert(item.clone()) {
+            todo.extend(world.names(&item, theorems.contains(&item)));
         }
+    }
+    seen
+}
+
+/// What is to be listed.
+fn found(world: &mut World, document: &Document) -> Result<Vec<Entry>, String> {
+    let theorems = theorems(world, document)?;
+    let exported = world.contracts(true);
+    let outer = rest_on(world, exported, &theorems);
+    let contracts = world.contracts(false);
+    let mut entries = Vec::new();
+    for item in rest_on(world, contracts, &theorems) {
         let statement = theorems.contains(&item);
         let entry = world.entry(&item, statement);
         if !statement && entry.path.ends_with("Laws.antt") {
@@ -111,8 +125,8 @@ fn found(world: &mut World, document: &Document) -> Result<Vec<Entry>, String> {
             );
             world.errors.insert(error);
         }
-        entries.push(entry);
-        todo.extend(world.names(&item, statement));
+        let inner = !outer.contains(&item);
+        entries.push(Entry { inner, ..entry });
     }
     Ok(entries)
 }

@@ -15,6 +15,8 @@ pub struct Struct {
 
 /// A public function.
 pub struct Function {
+    /// Whether it is a call for C.
+    pub exported: bool,
     /// Its parameters and answer.
     pub signature: Vec<Word>,
     /// Its `requires` and `ensures`.
@@ -70,6 +72,7 @@ pub fn read(path: &str, text: &str) -> Source {
                 .position(|(_, line)| is_contract(line))
                 .unwrap_or(part.len());
             source.functions.push(Function {
+                exported: line.starts_with("pub extern"),
                 signature: words(&part[..split]),
                 contract: words(&part[split..]),
             });

@@ -19,6 +19,10 @@ pub struct Entry {
     pub line: usize,
     pub name: String,
     pub lines: usize,
+    /// Whether it is a theorem's statement.
+    pub statement: bool,
+    /// Whether neither a call for C nor a theorem rests on it.
+    pub inner: bool,
 }
 
 pub struct World {
@@ -162,15 +166,20 @@ impl World {
         (items, errors)
     }
 
-    /// What the contracts of all public functions name.
-    pub fn contracts(&mut self) -> BTreeSet<Item> {
-        let many = |(name, source): (&String, &Source)| (name.clone(), source.functions.len());
-        let all: Vec<(String, usize)> = self.sources.iter().map(many).collect();
+    /// What the contracts of public functions name: of all, or of the calls for C alone.
+    pub fn contracts(&mut self, exported: bool) -> BTreeSet<Item> {
+        let mut all = Vec::new();
+        for (name, source) in &self.sources {
+            let wanted = |i: &usize| source.functions[*i].exported || !exported;
+            all.extend(
+                (0..source.functions.len())
+                    .filter(wanted)
+                    .map(|i| (name.clone(), i)),
+            );
+        }
         let mut items = BTreeSet::new();
-        for (name, many) in all {
-            for function in 0..many {
-                items.extend(self.contract(&name, function));
-            }
+        for (name, function) in all {
+            items.extend(self.contract(&name, function));
         }
         items
     }
@@ -310,6 +319,8 @@ impl World {
                     line: one.line,
                     name: name.to_string(),
                     lines: if statement { one.head_lines } else { one.lines },
+                    statement,
+                    inner: false,
                 }
             }
             Item::Struct(place, name) => {
@@ -319,6 +330,8 @@ impl World {
                     line: source.structs[name].line,
                     name: name.clone(),
                     lines: source.structs[name].lines,
+                    statement,
+                    inner: false,
                 }
             }
         }
