@@ -12,11 +12,11 @@
 #include "part.h"
 #include "words.h"
 
-/* The whole text into a new file, on the disk. */
-static bool write_new(const char *name, const char *text, mode_t mode)
+/* The whole text into a file, on the disk. */
+static bool write_text(const char *name, const char *text, int how, mode_t mode)
 {
     size_t length = strlen(text);
-    int fd = open(name, O_WRONLY | O_CREAT | O_EXCL | O_CLOEXEC, mode);
+    int fd = open(name, O_WRONLY | O_CREAT | O_CLOEXEC | O_NOFOLLOW | how, mode);
     if (fd < 0)
         return false;
     bool good = fchmod(fd, mode) == 0 && write(fd, text, length) == (ssize_t)length && fsync(fd) == 0;
@@ -35,14 +35,15 @@ static int cannot(const char *name)
     return complain(STATUS_FILE, "%s cannot be written: %s", name, strerror(errno));
 }
 
-/* The draft is whole before it becomes the record. */
-static int put(const char *path, const char *text, mode_t mode, int (*rename_to)(const char *, const char *))
+/* The draft is whole before it becomes the record. Of a program that was killed
+ * one may be left over; it belongs to the record that is there. */
+static int put(const char *path, const char *text, mode_t mode, bool first)
 {
     char *record = name_with(path, ".record"), *draft = name_with(path, ".record.part");
     int status = record != NULL && draft != NULL ? 0 : STATUS_OTHER;
-    if (status == 0 && !write_new(draft, text, mode)) {
+    if (status == 0 && !write_text(draft, text, first ? O_EXCL : O_TRUNC, mode)) {
         status = cannot(draft);
-    } else if (status == 0 && rename_to(draft, record) != 0) {
+    } else if (status == 0 && (first ? rename_free(draft, record) : rename(draft, record)) != 0) {
         status = cannot(record);
         unlink(draft);
     }
@@ -53,12 +54,12 @@ static int put(const char *path, const char *text, mode_t mode, int (*rename_to)
 
 int record_put(const char *path, const char *text, mode_t mode)
 {
-    return put(path, text, mode, rename);
+    return put(path, text, mode, false);
 }
 
 int record_first(const char *path, const char *text, mode_t mode)
 {
-    return put(path, text, mode, rename_free);
+    return put(path, text, mode, true);
 }
 
 void record_remove(const char *path)
