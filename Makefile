@@ -167,7 +167,7 @@ lint: $(OUT)/page.inc
 DRIVER       = target/driver
 DRIVER_CC    = $(CC11) -D_GNU_SOURCE -Idriver
 PROGRAMS     = mopimage mopload mopdump mopmachine
-PARTS        = line lock privileges words options files part record report host progress sha256 pieces hexfiles listing
+PARTS        = line lock privileges words options files part record report filing host progress sha256 pieces hexfiles listing
 
 driver: $(PROGRAMS:%=$(DRIVER)/%)
 

@@ -1,4 +1,5 @@
-/* dumping.h: a dump as mopdump runs it, and the record that tells of it. */
+/* dumping.h: a dump as mopdump runs it, its files, and the record that tells of
+ * it. */
 #ifndef DUMPING_H
 #define DUMPING_H
 
@@ -40,6 +41,14 @@ typedef struct dumping {
 
 /* The bytes of the range that a copy has. */
 uint64_t dumping_came(const dumping *d, const copy *c);
+
+/* Everything that can fail, before the machine is asked: names, room, what is
+ * there already, what --resume takes up. 0 or an exit status. */
+int filing_prepare(dumping *d);
+
+/* Tells what came, files it, and gives the exit status; status is how the
+ * sessions ended. */
+int filing_conclude(dumping *d, int status);
 
 /* The record of a dump that is under way: true at every moment until the next
  * is there, whatever happens. The first refuses one that is there. 0 or an exit

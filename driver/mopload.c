@@ -25,6 +25,7 @@ typedef struct loading {
     bool unserved[MOP_PROGRAM_SYSTEM]; /* the types that were said not to be served */
     bool begun;
     uint64_t resets; /* requests after the machine's first answer */
+    bool early;      /* one came before the last segment was under way */
     const host *host;
     progress progress;
 } loading;
@@ -52,15 +53,20 @@ static void tell_unserved(loading *l, const line_frame *frame, uint8_t type)
     fflush(stdout);
 }
 
-/* A machine that was answered and asks again has been reset. */
+/* A machine that has answered and asks again was reset; at the last segment, it
+ * may also be the program that asks. */
 static void tell_reset(loading *l, const line_frame *frame)
 {
     char from[ADDRESS_TEXT];
+    bool early = l->session.position + 1 < l->image.segments;
+    bool said = early ? l->early : l->resets > 0;
     l->resets += 1;
-    if (l->resets > 1)
+    l->early |= early;
+    if (said)
         return;
     words_bar_end();
-    printf("%s asks for a program again: it was reset in the middle of the load.\n", address_text(frame->from, from));
+    printf("%s asks for a program again: it was reset %s.\n", address_text(frame->from, from),
+        early ? "in the middle of the load" : "before it answered the last segment, or was started and asks for more");
     fflush(stdout);
 }
 
@@ -233,7 +239,7 @@ static int conclude(const loading *l, int status)
     else
         load_words(stdout, &l->session, &l->image);
     if (l->resets > 0)
-        load_reset_words(stdout, l->resets);
+        load_reset_words(stdout, l->resets, l->session.verdict == MOP_LOAD_UNCONFIRMED && !l->early);
     printf("%" PRIu64 " frames were sent by the session.\n", l->session.sent);
     if (status != 0)
         return status;

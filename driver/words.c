@@ -150,12 +150,16 @@ void load_shared_words(FILE *out)
         out);
 }
 
-void load_reset_words(FILE *out, uint64_t resets)
+void load_reset_words(FILE *out, uint64_t resets, bool perhaps_started)
 {
-    fprintf(out,
-        "It asked for a program again %" PRIu64 " time%s after its first answer: it was reset in the middle of the "
-        "load, and the segments before may be gone from its memory. Load it again.\n",
-        resets, resets == 1 ? "" : "s");
+    fprintf(out, "It asked for a program again %" PRIu64 " time%s after its first answer: ", resets,
+        resets == 1 ? "" : "s");
+    if (perhaps_started)
+        fputs("it was started and the program asks for another, or it was reset. Look at the machine.\n", out);
+    else
+        fputs("it was reset in the middle of the load, and the segments before may be gone from its memory. Load it "
+              "again.\n",
+            out);
 }
 
 void dump_shared_words(FILE *out)

@@ -3,6 +3,7 @@
 #ifndef WORDS_H
 #define WORDS_H
 
+#include <stdbool.h>
 #include <stdint.h>
 #include <stdio.h>
 
@@ -60,7 +61,7 @@ void dump_words(FILE *out, const mop_dump *session, const mop_dump_settings *set
 
 /* What casts doubt on a verdict, or takes its place. */
 void load_shared_words(FILE *out);
-void load_reset_words(FILE *out, uint64_t resets);
+void load_reset_words(FILE *out, uint64_t resets, bool perhaps_started);
 void dump_shared_words(FILE *out);
 void dump_offers_words(FILE *out, uint64_t offers);
 
