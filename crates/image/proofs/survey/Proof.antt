@@ -1,24 +1,32 @@
 -- `image::survey` meets its contract.
-use Prim.Native.Nat.{ℕ, _≤_}
+use Prim.Native.Nat.{ℕ, _≤_, _<_}
 use mathlib.Core.Path.{_≡_, sym, _∙_}
 use mathlib.Core.List.{List}
 use native.Mathlib.Omega.{arith}
 use lib.ListN.{length}
 use borrow.Author.Needs.{needs}
-use borrow.Author.Tests.{le-leb, eq-eqb, ne-eqb}
+use borrow.Author.Tests.{le-leb, lt-leb, eq-eqb, ne-eqb}
 use Rattle.directory.specs.Directory.{trailer, demand, trailerRefusal}
 use Rattle.image.specs.Image.{widest, cutRefusal, noTally, surveyed}
 use Rattle.directory.specs.Laws.{placed}
 use Rattle.image.specs.Walk.{walked}
 use Rattle.directory.specs.declared.Trailer.{Trailer}
 use Rattle.image.specs.declared.Tally.{Tally}
-use Rattle.directory.proofs.Demand.{demands}
 use Rattle.image.proofs.survey.Statement.{statement}
 use Rattle.image.proofs.survey.Tie as tie
 
 -- refused by a number
 refusing : (file : List ℕ) (S i n : ℕ) {a : Tally} → a ≡ noTally n → (n ≡ 0 → ⊥) → n ≡ cutRefusal file S → a ≡ surveyed file S i
 refusing file S i n e ne w = rw (← w, ne-eqb n 0 ne) e
+
+-- the size of segments is refused
+too-small : (file : List ℕ) (S : ℕ) → S < 1 → 10 ≡ cutRefusal file S
+unfolding demand
+too-small file S h = rw (lt-leb 1 S h)
+
+too-large : (file : List ℕ) (S : ℕ) → 1 ≤ S → widest < S → 10 ≡ cutRefusal file S
+unfolding demand
+too-large file S l h = rw (le-leb 1 S l, lt-leb S widest h)
 
 -- the size of segments is accepted
 module _ (file : List ℕ) (S : ℕ) (l : 1 ≤ S) (m : S ≤ widest) where
@@ -40,7 +48,7 @@ refused-requires c κs = search needs
 returns : tie.Need-returns
 returns c =
     let a = c .before .before .before .args in
-    refusing (a .file .now) (a .size) (a .index) 10 (c .refused .ensures) (λ z. omega arith) (search demands)
+    refusing (a .file .now) (a .size) (a .index) 10 (c .refused .ensures) (λ z. omega arith) (too-small (a .file .now) (a .size) (omega arith))
 
 refused-requires-2 : tie.Need-refused-requires-2
 refused-requires-2 c κs = search needs
@@ -48,7 +56,7 @@ refused-requires-2 c κs = search needs
 returns-2 : tie.Need-returns-2
 returns-2 c =
     let a = c .before .before .before .before .args in
-    refusing (a .file .now) (a .size) (a .index) 10 (c .refused2 .ensures) (λ z. omega arith) (search demands)
+    refusing (a .file .now) (a .size) (a .index) 10 (c .refused2 .ensures) (λ z. omega arith) (too-large (a .file .now) (a .size) (omega arith) (omega arith))
 
 read-trailer-requires : tie.Need-read-trailer-requires
 read-trailer-requires c κs = search needs

@@ -1,3 +1,4 @@
+use native.Mathlib.Omega.{arith}
 use borrow.Author.Needs.{needs}
 use borrow.Author.Tests.{eq-eqb, ne-eqb, lt-ltb, le-ltb}
 use Rattle.looptest_next.proofs.on_timer.Statement.{statement}
@@ -17,8 +18,9 @@ waits-requires-2 c κs = search needs
 
 returns-2 : tie.Need-returns-2
 returns-2 c =
-    let running = eq-eqb _ _ (c .before .before .before .before .before .if1 .left) in
-    rw (running, le-ltb _ _ (c .before .before .if2 .taken)) (rw (c .before .ended .ensures) at (c .waits2 .ensures))
+    let went = c .before .before .before .before .before in
+    let a = went .before .before .args in
+    rw (eq-eqb _ _ (went .if1 .left), le-ltb (a .session .repeats) (a .settings .repeats) (omega arith)) (rw (c .before .ended .ensures) at (c .waits2 .ensures))
 
 repeated-requires : tie.Need-repeated-requires
 repeated-requires c κs = search needs
@@ -28,8 +30,9 @@ again-requires c κs = search needs
 
 returns-3 : tie.Need-returns-3
 returns-3 c =
-    let running = eq-eqb _ _ (c .before .before .before .before .before .if1 .left) in
-    rw (running, lt-ltb _ _ (c .before .before .if2 .left)) (rw (c .before .repeated .ensures) at (c .again .ensures))
+    let went = c .before .before .before .before .before in
+    let a = went .before .before .args in
+    rw (eq-eqb _ _ (went .if1 .left), lt-ltb (a .session .repeats) (a .settings .repeats) (omega arith)) (rw (c .before .repeated .ensures) at (c .again .ensures))
 
 pub on-timer-spec : {M : Type 1} → statement M
 on-timer-spec =

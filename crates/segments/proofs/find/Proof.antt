@@ -1,5 +1,6 @@
 -- `segments::find` meets its contract.
 use mathlib.Core.Path.{_∙_}
+use native.Mathlib.Omega.{arith}
 use borrow.Author.Needs.{needs}
 use Rattle.image.specs.Laws.{survey-refusal, agrees}
 use Rattle.segments.specs.Laws.{found-inside, found-outside, found-refused}
@@ -26,7 +27,7 @@ returns-2 c =
     let tested = c .before .before .before in
     let a = tested .before .before .before .before .args in
     let k = agrees (a .file .now) (a .size) (a .index) (tested .before .before .survey .ensures) (tested .if1 .left) in
-    rw (found-outside (a .file .now) (a .size) (k .none) (a .index) (rw (k .numbered) at (c .before .if2 .taken))) (c .no-segment2 .ensures)
+    rw (found-outside (a .file .now) (a .size) (k .none) (a .index) (omega (arith, k .numbered))) (c .no-segment2 .ensures)
 
 cast-t7 : tie.Need-cast-t7
 cast-t7 c = search needs
@@ -46,7 +47,7 @@ returns-3 c =
     let tested = inside .before .before in
     let a = tested .before .before .before .before .args in
     let k = agrees (a .file .now) (a .size) (a .index) (tested .before .before .survey .ensures) (tested .if1 .left) in
-    rw (found-inside (a .file .now) (a .size) (k .none) (a .index) (rw (k .numbered) at (inside .if2 .left)), c .flag .ensures, k .numbered, k .reached)
+    rw (found-inside (a .file .now) (a .size) (k .none) (a .index) (omega (arith, k .numbered)), c .flag .ensures, k .numbered, k .reached)
 
 pub find-spec : {M : Type 1} → statement M
 find-spec =
