@@ -8,7 +8,7 @@ OUT     = target/tests
 LIB     = target/staticlib/libmop.a
 SOURCES = $(shell find crates -name '*.rt' -o -name '*.antt') crates.txt
 
-.PHONY: test run explain frames lib compare compare-rehearsal bench needs header layout examples guards sanitize lint driver driver-sanitized fuzz driver-test line-bench simh
+.PHONY: test run explain frames lib compare compare-rehearsal bench needs trusted trusted-list header layout examples guards sanitize lint driver driver-sanitized fuzz driver-test line-bench simh
 
 # rt ci begins by removing target/, so it comes first; its last line is repeated at the end where all else passed.
 test: needs
@@ -45,8 +45,8 @@ $(OUT)/libmop_plain.rlib: $(wildcard tests/independent/*.rs)
 	@mkdir -p $(OUT)
 	$(RUSTC) --crate-type rlib --crate-name mop_plain -o $@ tests/independent/lib.rs
 
-# The declarations on the Rust side, and the header's layout held to the same numbers.
-$(OUT)/libmop_proved.rlib: $(LIB) $(OUT)/layout $(wildcard tests/proved/*.rs)
+# The declarations on the Rust side; `make layout` compares their layout with the header's.
+$(OUT)/libmop_proved.rlib: $(LIB) $(wildcard tests/proved/*.rs)
 	@mkdir -p $(OUT)
 	$(RUSTC) --crate-type rlib --crate-name mop_proved -L native=target/staticlib -o $@ tests/proved/lib.rs
 
@@ -64,7 +64,7 @@ $(OUT)/bench: $(OUT)/libmop_plain.rlib $(OUT)/libmop_proved.rlib $(wildcard benc
 	$(RUSTC) --crate-name bench $(BOTH) -o $@ bench/main.rs
 
 # The proved library against the independent implementation.
-compare: $(OUT)/compare
+compare: layout $(OUT)/compare
 	$(OUT)/compare
 
 # The rehearsal program against the independent implementation: set inputs, the examples, random inputs.
@@ -74,6 +74,17 @@ compare-rehearsal: $(OUT)/rehearse target/bin/rehearsal
 # Both implementations' speed, in one run.
 bench: $(OUT)/bench
 	$(OUT)/bench
+
+# What must be believed: `make trusted` writes the list into docs/TRUSTED.md, and trusted-list compares it.
+$(OUT)/trusted: $(wildcard tests/trusted/*.rs)
+	@mkdir -p $(OUT)
+	$(RUSTC) --crate-name trusted -o $@ tests/trusted/main.rs
+
+trusted: $(OUT)/trusted
+	@$< --write
+
+trusted-list: $(OUT)/trusted
+	@$<
 
 # ---- C.
 
@@ -89,15 +100,21 @@ header: $(OUT)/header
 	for std in c++11 c++14 c++17 c++20; do g++ -std=$$std $(WARN) -fsyntax-only -x c++ include/mop.h || exit 1; done; \
 	echo "header: good C and C++"
 
-$(OUT)/layout: tests/proved/layout.c include/mop.h
-	@mkdir -p $(OUT)
-	$(CC11) -DSTRUCTS=$$(grep -c '^typedef struct' include/mop.h) -o $@ $<
+# The layout of every struct, printed by C and by Rust, is the one that is stored; and a wrong header is found.
+$(OUT)/fields.inc: $(OUT)/header include/mop.h
+	@$(OUT)/header --fields >$@
 
-# The layout of every struct, with the same numbers on the Rust side.
-layout: $(OUT)/layout
-	@$(OUT)/layout
-	@sed -n 's/.*\(FIELD\|INNER\)(.*, \([0-9]*\), \([0-9]*\)).*/\2 \3/p' tests/proved/layout.c >$(OUT)/layout_c
-	@cd tests/proved && sed -n 's/^    [a-z_]* \([0-9]*\) \([0-9]*\),$$/\1 \2/p' lib.rs ends.rs looping.rs | cmp - ../../$(OUT)/layout_c
+$(OUT)/layout_c: tests/layout/layout.c $(OUT)/fields.inc include/mop.h
+	$(CC11) -I$(OUT) -o $@ $<
+
+$(OUT)/layout_rust: tests/layout/main.rs $(OUT)/libmop_proved.rlib
+	$(RUSTC) --crate-name layout_rust --extern mop_proved=$(OUT)/libmop_proved.rlib -o $@ $<
+
+layout: $(OUT)/layout_c $(OUT)/layout_rust
+	@$(OUT)/layout_c | diff tests/layout/expected -
+	@$(OUT)/layout_rust | diff tests/layout/expected -
+	@echo "layout: $$(wc -l <tests/layout/expected) lines, the same in C and in Rust"
+	@tests/layout/wrong $(OUT)
 
 # The code on the header's first page.
 $(OUT)/page.inc: include/mop.h
@@ -118,7 +135,7 @@ examples: $(OUT)/load_and_dump $(OUT)/page
 	$(call PRINTS,$(OUT)/load_and_dump)
 	$(OUT)/page
 
-# Every call between guard pages, and wrong calls that the test must find.
+# Every call between guard pages, and wrong calls that the test must find; every number of the header, and wrong ones.
 GUARDS = main check lent make steps reading writing images machine load dump looping
 
 $(OUT)/guards_%.o: tests/c/%.c $(wildcard tests/c/*.h) include/mop.h
@@ -131,6 +148,7 @@ $(OUT)/guards: $(GUARDS:%=$(OUT)/guards_%.o) $(LIB)
 guards: header layout $(OUT)/guards
 	$(OUT)/guards
 	@tests/c/wrong.sh $(OUT) $(LIB)
+	@tests/c/numbers.sh $(OUT) $(LIB)
 
 # The C programs with the address and undefined behaviour sanitizers, then plain under valgrind, where there is one,
 # with a smaller count.
@@ -151,16 +169,16 @@ sanitize: $(OUT)/guards $(OUT)/load_and_dump $(OUT)/page driver-sanitized
 	$(VALGRIND) $(OUT)/page
 
 # For those who edit the C sources: style and two more readers of the code.
-CSOURCES = include/mop.h examples/c/load_and_dump.c $(wildcard tests/c/*.c tests/c/*.h) tests/proved/layout.c
+CSOURCES = include/mop.h examples/c/load_and_dump.c $(wildcard tests/c/*.c tests/c/*.h) tests/layout/layout.c
 DRIVERSOURCES = $(wildcard driver/*.[ch] tests/driver/*.[ch] tests/fuzz/*.[ch])
 CPPCHECK = cppcheck --quiet --std=c11 --error-exitcode=1 --enable=warning,style,performance,portability -Iinclude
 TIDY     = clang-tidy --quiet --warnings-as-errors='*'
 # Of the driver's files one at a time: the analyzer of clang 14 takes what it knows of a va_list from file to file.
-lint: $(OUT)/page.inc
+lint: $(OUT)/page.inc $(OUT)/fields.inc
 	clang-format --dry-run -Werror $(CSOURCES) $(DRIVERSOURCES)
-	$(CPPCHECK) -I$(OUT) -DSTRUCTS=16 -DWRONG=1 $(filter %.c,$(CSOURCES))
+	$(CPPCHECK) -I$(OUT) -DWRONG=1 $(filter %.c,$(CSOURCES))
 	$(CPPCHECK) -Idriver -D_GNU_SOURCE $(filter %.c,$(DRIVERSOURCES))
-	$(TIDY) $(filter %.c,$(CSOURCES)) -- -std=c11 -Iinclude -I$(OUT) -DSTRUCTS=16 -DWRONG=1
+	$(TIDY) $(filter %.c,$(CSOURCES)) -- -std=c11 -Iinclude -I$(OUT) -DWRONG=1
 	printf '%s\n' $(filter %.c,$(DRIVERSOURCES)) | xargs -P 2 -I FILE $(TIDY) FILE -- -std=c11 -Iinclude -Idriver -D_GNU_SOURCE
 
 # The line driver: C programs over the library (driver/).

@@ -19,7 +19,7 @@ typedef struct host_job {
     void (*before)(void *job, line_frame *frame);
     /* One step of the library on the job's own record. */
     mop_written (*step)(
-        void *job, uint8_t timer, const uint8_t *frame, size_t frame_length, uint8_t *reply, size_t reply_length);
+        void *job, bool timer, const uint8_t *frame, size_t frame_length, uint8_t *reply, size_t reply_length);
     /* Whether the library would begin with this message; the record stays. */
     bool (*begins)(const void *job, const line_frame *frame);
     /* Waiting; begun without an answer yet; under way; over. */

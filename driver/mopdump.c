@@ -28,11 +28,14 @@ static void before(void *job, line_frame *frame)
 }
 
 static mop_written step(
-    void *job, uint8_t timer, const uint8_t *frame, size_t frame_length, uint8_t *reply, size_t reply_length)
+    void *job, bool timer, const uint8_t *frame, size_t frame_length, uint8_t *reply, size_t reply_length)
 {
     dumping *d = job;
-    return mop_dump_update(d->settings, &d->now->session, timer, frame, frame_length, d->now->bytes + d->before,
-        d->settings.length, reply, reply_length);
+    uint8_t *buffer = d->now->bytes + d->before;
+    if (timer)
+        return mop_dump_update_timer(d->settings, &d->now->session, buffer, d->settings.length, reply, reply_length);
+    return mop_dump_update_frame(
+        d->settings, &d->now->session, frame, frame_length, buffer, d->settings.length, reply, reply_length);
 }
 
 /* A step that begins does not write to the buffer. */
@@ -41,8 +44,8 @@ static bool begins(const void *job, const line_frame *frame)
     const dumping *d = job;
     uint8_t reply[MOP_FRAME_MOST];
     mop_dump trial = mop_dump_start();
-    mop_dump_update(d->settings, &trial, 0, frame->bytes, frame->length, d->now->bytes + d->before, d->settings.length,
-        reply, sizeof reply);
+    mop_dump_update_frame(d->settings, &trial, frame->bytes, frame->length, d->now->bytes + d->before,
+        d->settings.length, reply, sizeof reply);
     return trial.waiting == 0;
 }
 

@@ -1,5 +1,6 @@
 /* mopimage: makes, lists and checks image files. What an image is, the
  * library's check alone decides. */
+#include <errno.h>
 #include <inttypes.h>
 #include <stdio.h>
 #include <stdlib.h>
@@ -214,6 +215,8 @@ int main(int count, char **words)
     int status = c.inputs == NULL ? complain(STATUS_OTHER, "no memory") : options(count, words, &c);
     if (status == 0)
         status = c.show != NULL ? show(&c) : make(&c);
+    if (status == 0 && fflush(stdout) != 0)
+        status = complain(STATUS_FILE, "standard output cannot be written: %s", strerror(errno));
     pieces_free(&c.pieces);
     free(c.inputs);
     return status;

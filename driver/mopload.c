@@ -89,11 +89,13 @@ static void before(void *job, line_frame *frame)
 }
 
 static mop_written step(
-    void *job, uint8_t timer, const uint8_t *frame, size_t frame_length, uint8_t *reply, size_t reply_length)
+    void *job, bool timer, const uint8_t *frame, size_t frame_length, uint8_t *reply, size_t reply_length)
 {
     loading *l = job;
-    return mop_load_update(
-        l->settings, &l->session, timer, l->file.bytes, l->file.length, frame, frame_length, reply, reply_length);
+    if (timer)
+        return mop_load_update_timer(l->settings, &l->session, l->file.bytes, l->file.length, reply, reply_length);
+    return mop_load_update_frame(
+        l->settings, &l->session, l->file.bytes, l->file.length, frame, frame_length, reply, reply_length);
 }
 
 static bool begins(const void *job, const line_frame *frame)
@@ -101,8 +103,8 @@ static bool begins(const void *job, const line_frame *frame)
     const loading *l = job;
     uint8_t reply[MOP_FRAME_MOST];
     mop_load trial = mop_load_start();
-    mop_load_update(
-        l->settings, &trial, 0, l->file.bytes, l->file.length, frame->bytes, frame->length, reply, sizeof reply);
+    mop_load_update_frame(
+        l->settings, &trial, l->file.bytes, l->file.length, frame->bytes, frame->length, reply, sizeof reply);
     return trial.waiting == 0;
 }
 

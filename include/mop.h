@@ -1,10 +1,10 @@
 /* mop.h: Kochipurn for C. The proved reader and writers of MOP frames, the
  * image file, the machine end, and the host's load, dump and loop test.
  *
- * Link with libmop.a (make lib), which needs the C library alone. No call
- * allocates, blocks, prints, keeps anything between calls, or fails otherwise
- * than by a refusal. Threads may call at once if none writes what another
- * uses.
+ * Link with libmop.a (make lib), which needs the C library alone. It is built
+ * for x86-64 Linux and its calling convention (System V). No call allocates,
+ * blocks, prints, keeps anything between calls, or fails otherwise than by a
+ * refusal. Threads may call at once if none writes what another uses.
  *
  *
  * A load and a dump, from the first call to the last
@@ -15,7 +15,8 @@
  *     void line_send(const uint8_t *frame, size_t length);
  *
  *     // Waits for a frame from the machine: its length, or 0 if the timer has
- *     // run out. It drops a frame of more than room bytes.
+ *     // run out, which line_send alone starts anew. It drops an empty frame
+ *     // and one of more than room bytes.
  *     size_t line_wait(uint8_t *frame, size_t room);
  *
  * The rest is these two. Each ends with a verdict, or with a refusal below 0
@@ -31,9 +32,11 @@
  *
  *         while (session.verdict == MOP_LOAD_RUNNING) {
  *             size_t length = line_wait(frame, sizeof frame);
- *             mop_written answer = mop_load_update(settings, &session,
- *                 length == 0, file, file_length, frame, length,
- *                 reply, sizeof reply);
+ *             mop_written answer = length > 0
+ *                 ? mop_load_update_frame(settings, &session, file,
+ *                       file_length, frame, length, reply, sizeof reply)
+ *                 : mop_load_update_timer(settings, &session, file,
+ *                       file_length, reply, sizeof reply);
  *             if (mop_refused_frame(answer.refusal))
  *                 continue;
  *             if (answer.refusal != MOP_ACCEPTED)
@@ -54,9 +57,11 @@
  *
  *         while (session.verdict == MOP_DUMP_RUNNING) {
  *             size_t length = line_wait(frame, sizeof frame);
- *             mop_written answer = mop_dump_update(settings, &session,
- *                 length == 0, frame, length, buffer, buffer_length,
- *                 reply, sizeof reply);
+ *             mop_written answer = length > 0
+ *                 ? mop_dump_update_frame(settings, &session, frame, length,
+ *                       buffer, buffer_length, reply, sizeof reply)
+ *                 : mop_dump_update_timer(settings, &session,
+ *                       buffer, buffer_length, reply, sizeof reply);
  *             if (mop_refused_frame(answer.refusal))
  *                 continue;
  *             if (answer.refusal != MOP_ACCEPTED)
@@ -68,8 +73,11 @@
  *     }
  *
  * Both wait without end for a machine that never asks: while the host waits,
- * a timer does nothing, and the caller may stop at any time. The machine's
- * side of both is in examples/c/load_and_dump.c.
+ * a timer does nothing, and the caller may stop at any time. A load serves a
+ * machine that asks for program type 2, an operating system, and ignores other
+ * types; a genuine boot ROM asks for type 1 (docs/FIELD-NOTES.md has one, and
+ * how driver/mopload serves it). The machine's side of both is in
+ * examples/c/load_and_dump.c.
  *
  *
  * What holds for every call
@@ -80,21 +88,41 @@
  * const) overlaps nothing else that is lent. Nothing else is asked of the
  * caller: any bytes and any numbers are answered.
  *
- * Refusals. Each call answers a refusal, 0 for none. A refusal changes
- * nothing: the record is the one that came in, the answered length is 0, and
- * every lent byte is as it was. Where several refusals apply, the first in the
- * order given at the call is answered.
+ * Frames. A frame is one message's bytes, from its code to its last field, with
+ * nothing of the line's around them. On Ethernet a message stands behind its
+ * length, two bytes, low byte first, and a short one is padded: leave the two
+ * bytes out and cut the rest to that length, or padding becomes data. So a
+ * message has at most 1,498 bytes there: see MOP_ETHERNET_.. below.
  *
- * Order. In every step: settings, record, whether the timer has run out (where
- * one call takes both), lent bytes that stay the same over a session, frame,
+ * Refusals. Each call answers a refusal, 0 for none; mop_load_start and
+ * mop_dump_start, which nothing goes into, answer a record alone. A refusal
+ * changes nothing: the record is the one that came in, the answered length is
+ * 0, and every lent byte is as it was. (No record comes into a start call: if
+ * refused, it answers the record of its start, and no frame.) Where several
+ * refusals apply, the first in the order given at the call is answered.
+ *
+ * Order. In every step, of these the ones that it needs: settings, record,
+ * lent bytes that stay the same over a session (image file, loop data), frame,
  * memory or dump buffer, reply buffer.
  *
  * Records. A step takes a session's record by value and answers the next one,
- * or it updates the record where it stands. Hand it to the next step, and
- * change nothing in it; the same settings, file, memory, data and buffer go
- * into each step of a session. Once a verdict is not 0, no frame and no timer
- * changes anything or sends anything; a frame that can't be read is refused
- * even then.
+ * or it updates the record where it stands (mop_.._update_..). Hand it to the
+ * next step, and change nothing in it; the same settings, file, memory, data
+ * and buffer go into each step of a session. Once a verdict is not 0, no frame
+ * and no timer changes anything or sends anything; a frame that can't be read
+ * is refused even then.
+ *
+ * Timers. How long one runs is the caller's. Start it when a step gives a frame
+ * to send, and at no other time: a frame that is refused or ignored leaves it
+ * running, or such frames would put it off for ever. After a step on a timer
+ * that gives no frame, none is needed until one goes out again.
+ *
+ * Ignored. Where a step answers refusal 0 and length 0, and the verdict (of a
+ * machine, the state) is as before, the frame or timer was ignored: nothing has
+ * changed, in the record, in memory or in a buffer. One that was taken gives a
+ * frame to send, or another verdict or state. That is a theorem
+ * (crates/mop_steps/specs/Laws.antt). Compare records field by field: they have
+ * bytes that belong to no field and hold anything, so memcmp is no way.
  *
  * Verdicts. What they say of the machine holds where its end is this library's
  * or does the same, where the line alters no frame and keeps their order (it
@@ -125,7 +153,7 @@ enum mop_refusal {
                                   list */
     MOP_REFUSED_FILE = 5,      /* the file is under 16 or above 16,777,216
                                   bytes, or its length field or zero field is
-                                  wrong */
+                                  wrong ('The image file' has the fields) */
     MOP_REFUSED_DIRECTORY = 6, /* the entry count or the directory offset is
                                   wrong */
     MOP_REFUSED_ENTRY = 7,     /* a directory entry breaks its own rule */
@@ -147,16 +175,29 @@ static inline int mop_refused_frame(uint8_t refusal)
 enum mop_limit {
     MOP_FRAME_MOST = 1500,      /* bytes of a frame; a reply buffer has at
                                    least as many */
-    MOP_SEGMENT_MOST = 1490,    /* bytes of a segment */
-    MOP_DUMP_DATA_MOST = 1495,  /* bytes of memory in a dump reply */
-    MOP_LOOP_DATA_MOST = 1497,  /* bytes of a loop test's data */
+    MOP_SEGMENT_MOST = 1490,    /* bytes of a segment; code 0 has 10 more */
+    MOP_DUMP_DATA_MOST = 1495,  /* bytes of memory in a dump reply; code 14
+                                   has 5 more */
+    MOP_LOOP_DATA_MOST = 1497,  /* bytes of a loop test's data; code 24 has 3
+                                   more */
     MOP_REPEATS_MOST = 255,     /* repeats of a frame */
     MOP_FILE_MOST = 16777216,   /* bytes of an image file; the least is 16 */
     MOP_MEMORY_MOST = 16777216, /* bytes of a machine's memory */
     MOP_REGIONS_MOST = 64       /* regions of an image; the least is 1 */
 };
 
-/* The codes, a frame's first byte. Each has the writer of its name. */
+/* The same on Ethernet, where the length in front of a message takes two bytes
+ * of 1,500. The calls do not know of it: a driver there keeps its settings to
+ * these. */
+enum mop_ethernet_limit {
+    MOP_ETHERNET_FRAME_MOST = 1498,
+    MOP_ETHERNET_SEGMENT_MOST = 1488,
+    MOP_ETHERNET_DUMP_DATA_MOST = 1493,
+    MOP_ETHERNET_LOOP_DATA_MOST = 1495
+};
+
+/* The codes, a frame's first byte. Each but the last has the writer of its
+ * name. */
 enum mop_code {
     MOP_CODE_LOAD_TRANSFER = 0,         /* memory load with transfer */
     MOP_CODE_DUMP_COMPLETE = 1,         /* dump complete */
@@ -169,7 +210,8 @@ enum mop_code {
     MOP_CODE_DUMP_DATA = 14,            /* memory dump data */
     MOP_CODE_PARAMETERS = 20,           /* parameter load with transfer */
     MOP_CODE_LOOP = 24,                 /* loop data */
-    MOP_CODE_LOOPED = 26                /* looped data */
+    MOP_CODE_LOOPED = 26,               /* looped data */
+    MOP_CODE_NONE = 255                 /* no frame: refused */
 };
 
 /* The program types of code 8. */
@@ -242,7 +284,8 @@ enum mop_loop_verdict {
 
 /* ---- Reading a frame ------------------------------------------------- */
 
-/* A frame's fields. Those that its code does not have are 0.
+/* A frame's fields. Those that its code does not have are 0. A refused frame
+ * has none, and the code MOP_CODE_NONE, which no frame has.
  *
  *   code                            fields
  *    0 memory load with transfer    number, address, data, transfer
@@ -259,6 +302,10 @@ enum mop_loop_verdict {
  *   20 parameter load with transfer number, entries, transfer
  *   24 loop data                    receipt, data
  *   26 looped data                  receipt, data
+ *
+ * Data, info and entries may be empty: then data_length is 0, and data_at is
+ * where they would begin. A code that has none of them has both 0. id_at is 5
+ * for every code 8, also where it has no id and id_length is 0.
  */
 typedef struct mop_fields {
     size_t data_at;        /* where data, info or entries begin in the frame */
@@ -270,8 +317,8 @@ typedef struct mop_fields {
     uint32_t memory_size;  /* the machine's memory, in bytes */
     uint16_t count;        /* bytes asked for */
     uint16_t receipt;      /* receipt number of a loop test */
-    uint8_t refusal;       /* 0, or 1 to 4 and then all else is 0 */
-    uint8_t code;          /* MOP_CODE_.. */
+    uint8_t refusal;       /* 0, or 1 to 4: then no code, and all else 0 */
+    uint8_t code;          /* MOP_CODE_.., MOP_CODE_NONE if refused */
     uint8_t number;        /* number of the load */
     uint8_t error;         /* 0 for none */
     uint8_t device;        /* device type */
@@ -369,6 +416,49 @@ mop_written mop_write_looped(uint16_t receipt, const uint8_t *data,
 
 /* ---- The image file -------------------------------------------------- */
 
+/* The image file: the bytes of the regions, then the directory, one entry for
+ * each region, then the trailer, which points back. Numbers stand low byte
+ * first.
+ *
+ *   from byte               bytes
+ *   0                       any  the regions' bytes; some may be unused, and
+ *                                regions may share some
+ *   directory               12   the first region's entry
+ *                                  4  address    of its first byte in memory
+ *                                  4  offset     of its first byte in the file
+ *                                  4  length     its bytes
+ *   directory + 12          12   the second's, and so on
+ *   directory + 12 x count  16   the trailer, which ends the file
+ *                                  4  directory  where that begins in the file
+ *                                  2  count      the entries, 1 to 64
+ *                                  2  zero       0
+ *                                  4  transfer   where the program starts
+ *                                  4  length     the bytes of the whole file
+ *
+ * One region of three bytes at address 2, which starts there:
+ *
+ *   0A 0B 0C                                  its bytes
+ *   02 00 00 00  00 00 00 00  03 00 00 00     address 2, offset 0, length 3
+ *   03 00 00 00  01 00  00 00                 directory 3, count 1, zero
+ *   02 00 00 00  1F 00 00 00                  transfer 2, length 31
+ *
+ * Refused are, in this order,
+ *   5  a file under 16 or above 16,777,216 bytes; a length that is not the
+ *      file's; a zero that is not 0
+ *   6  a count outside 1 to 64; directory + 12 x count + 16 that is not the
+ *      file's length
+ *   7  an entry with length 0, with offset + length above directory, or with
+ *      address + length above 4,294,967,296
+ *   8  an entry whose address is below the address + length of the one before
+ * Both of an entry come before those of the next. Any transfer passes.
+ *
+ * Segments: the regions in the directory's order, each cut into parts of
+ * segment_size bytes, its last perhaps shorter. N is how many there are. They
+ * are counted from 0, and the number of segment i in its frame is i modulo
+ * 256. The last goes out as code 0, with the transfer address, the others as
+ * code 2.
+ */
+
 /* An accepted image. */
 typedef struct mop_image {
     uint64_t segments; /* N, how many of the given size there are */
@@ -415,7 +505,12 @@ typedef struct mop_machine_settings {
 } mop_machine_settings;
 
 /* The machine's record. A number that the state does not use is not looked at;
- * on entering a state such numbers become 0. */
+ * on entering a state such numbers become 0. Two calls below start a machine
+ * that wants a load or a dump. One that wants neither is Idle, all 0, and needs
+ * no call:
+ *
+ *     mop_machine machine = {.state = MOP_MACHINE_IDLE};
+ */
 typedef struct mop_machine {
     uint32_t transfer; /* Started: the transfer address */
     uint8_t state;     /* MOP_MACHINE_.. */
@@ -441,26 +536,33 @@ typedef struct mop_machine_step {
  */
 
 /* Starts a load: the record is Requesting, the frame a code 8 for an operating
- * system. If refused, the record is the same, and there is no frame. Of memory
- * only the length matters. */
+ * system. If refused, the record is Requesting too, and there is no frame. Of
+ * memory only the length matters. */
 mop_machine_step mop_machine_start_load(mop_machine_settings settings,
     const uint8_t *memory, size_t memory_length, uint8_t *reply,
     size_t reply_length);
 
 /* Starts a dump: the record is Offering, the frame a code 12 with the memory's
- * length. If refused, the record is the same, and there is no frame. Of memory
- * only the length matters. */
+ * length. If refused, the record is Offering too, and there is no frame. Of
+ * memory only the length matters. */
 mop_machine_step mop_machine_start_dump(mop_machine_settings settings,
     const uint8_t *memory, size_t memory_length, uint8_t *reply,
     size_t reply_length);
 
-/* A frame has come. Idle, Requesting and Loading take a load (codes 0 and 2)
- * with number 0 or the expected one: it goes into memory if it fits, and code
- * 10 answers with the next number, and error 1 if it does not fit. Then the
- * state is Loading or, after a code 0 that fits, Started. Loading gives its
- * last reply again to the number before the expected one. Idle and Offering
- * answer code 4 with memory's bytes, 0 beyond its end. Idle answers code 24
- * with 26. Code 1 turns Offering into Idle. All else is ignored. */
+/* A frame has come.
+ *   Codes 0 and 2, a load, in Idle, Requesting and Loading: taken with number
+ *   0, always and anew, and in Loading with the expected number. It fits if its
+ *   address + its data's length is at most the memory's length. If it fits, the
+ *   data goes into memory, and code 10 answers with the number after it (after
+ *   255 comes 0) and error 0; if not, memory stays, and the error is 1. Then
+ *   the state is Loading or, after a code 0 that fits, Started. To the number
+ *   before the expected one, unless that is 0, Loading gives its last reply
+ *   again, its error included.
+ *   Code 4, in Idle and Offering: answered with code 14, the address asked for
+ *   and the lesser of count and D bytes from there on, 0 beyond memory's end.
+ *   Code 1, in Offering: the state becomes Idle.
+ *   Code 24, in Idle: answered with the same receipt and data as code 26.
+ *   All else is ignored. */
 mop_machine_step mop_machine_frame(mop_machine_settings settings,
     mop_machine machine, const uint8_t *frame, size_t frame_length,
     uint8_t *memory, size_t memory_length, uint8_t *reply, size_t reply_length);
@@ -499,7 +601,7 @@ typedef struct mop_load_step {
  * 0. Refuses nothing. */
 mop_load mop_load_start(void);
 
-/* In each of the three calls below:
+/* In each of the four calls below:
  *   In     the image file, which is not changed and stays the same over a
  *          load; a reply buffer of at least 1,500 bytes.
  *   Out    the next record, and the length of the frame to send, 0 for none;
@@ -516,10 +618,11 @@ mop_load mop_load_start(void);
  *          Then the record is answered as it came, and reply stays as it was.
  */
 
-/* A frame has come. Code 8 for an operating system ends the waiting, and the
- * first segment goes out. Code 10 with the next number answers the segment on
- * its way: the next one goes out, or the load is finished or rejected. All
- * else is ignored. */
+/* A frame has come. Code 8 for an operating system (program type 2) ends the
+ * waiting, and the first segment goes out. Code 10 with the number (c + 1)
+ * modulo 256 answers the segment on its way: with error 0 the next one goes
+ * out, or, after the last, the load is finished; with another error it is
+ * rejected. All else is ignored. */
 mop_load_step mop_load_frame(mop_load_settings settings, mop_load session,
     const uint8_t *file, size_t file_length, const uint8_t *frame,
     size_t frame_length, uint8_t *reply, size_t reply_length);
@@ -531,13 +634,14 @@ mop_load_step mop_load_timer(mop_load_settings settings, mop_load session,
     const uint8_t *file, size_t file_length, uint8_t *reply,
     size_t reply_length);
 
-/* Both of these in one call, and the record is updated where it stands: with
- * timer 0 a frame has come, with anything else the timer has run out, and then
- * frame is not looked at (null and 0 will do). session points to a record that
- * overlaps nothing else that is lent. If refused, it stays as it was. */
-mop_written mop_load_update(mop_load_settings settings, mop_load *session,
-    uint8_t timer, const uint8_t *file, size_t file_length,
-    const uint8_t *frame, size_t frame_length, uint8_t *reply,
+/* The same two steps, and the record is updated where it stands. session points
+ * to a record that overlaps nothing else that is lent. If refused, it stays as
+ * it was. */
+mop_written mop_load_update_frame(mop_load_settings settings, mop_load *session,
+    const uint8_t *file, size_t file_length, const uint8_t *frame,
+    size_t frame_length, uint8_t *reply, size_t reply_length);
+mop_written mop_load_update_timer(mop_load_settings settings, mop_load *session,
+    const uint8_t *file, size_t file_length, uint8_t *reply,
     size_t reply_length);
 
 /* ---- The host's dump ------------------------------------------------- */
@@ -572,7 +676,7 @@ typedef struct mop_dump_step {
  * 0. Refuses nothing. */
 mop_dump mop_dump_start(void);
 
-/* In each of the three calls below:
+/* In each of the four calls below:
  *   In     a dump buffer of exactly the settings' length, which the caller
  *          leaves alone over a dump; a reply buffer of at least 1,500 bytes.
  *   Out    the next record, and the length of the frame to send, 0 for none;
@@ -606,13 +710,15 @@ mop_dump_step mop_dump_timer(mop_dump_settings settings, mop_dump session,
     const uint8_t *buffer, size_t buffer_length, uint8_t *reply,
     size_t reply_length);
 
-/* Both of these in one call, and the record is updated where it stands: with
- * timer 0 a frame has come, with anything else the timer has run out, and then
- * frame is not looked at (null and 0 will do). session points to a record that
- * overlaps nothing else that is lent. If refused, it stays as it was. */
-mop_written mop_dump_update(mop_dump_settings settings, mop_dump *session,
-    uint8_t timer, const uint8_t *frame, size_t frame_length, uint8_t *buffer,
+/* The same two steps, and the record is updated where it stands. session points
+ * to a record that overlaps nothing else that is lent. If refused, it stays as
+ * it was. */
+mop_written mop_dump_update_frame(mop_dump_settings settings, mop_dump *session,
+    const uint8_t *frame, size_t frame_length, uint8_t *buffer,
     size_t buffer_length, uint8_t *reply, size_t reply_length);
+mop_written mop_dump_update_timer(mop_dump_settings settings, mop_dump *session,
+    const uint8_t *buffer, size_t buffer_length, uint8_t *reply,
+    size_t reply_length);
 
 /* ---- The host's loop test -------------------------------------------- */
 
@@ -648,7 +754,7 @@ typedef struct mop_loop_step {
  */
 
 /* Starts a test: the record has sent 1 and all else 0, and code 24 goes out.
- * If refused, the record is the same, and there is no frame. */
+ * If refused, the record is that one too, and there is no frame. */
 mop_loop_step mop_loop_start(mop_loop_settings settings, const uint8_t *data,
     size_t data_length, uint8_t *reply, size_t reply_length);
 

@@ -100,8 +100,11 @@ static void load_step(mop_load *session, const uint8_t *file, size_t size)
     const mop_load_settings settings = {.segment_size = 64, .repeats = 3};
     uint8_t frame[MOP_FRAME_MOST];
     const size_t length = line_wait(&to_host, frame);
-    line_send(&to_machine, mop_load_update(settings, session, length == 0, file,
-                               size, frame, length, reply, sizeof reply));
+    line_send(&to_machine, length > 0
+                               ? mop_load_update_frame(settings, session, file,
+                                     size, frame, length, reply, sizeof reply)
+                               : mop_load_update_timer(settings, session, file,
+                                     size, reply, sizeof reply));
 }
 
 static void dump_step(mop_dump *session, uint8_t *buffer, size_t size)
@@ -110,9 +113,11 @@ static void dump_step(mop_dump *session, uint8_t *buffer, size_t size)
         .length = size, .address = 0, .request_bytes = 100, .repeats = 3};
     uint8_t frame[MOP_FRAME_MOST];
     const size_t length = line_wait(&to_host, frame);
-    line_send(
-        &to_machine, mop_dump_update(settings, session, length == 0, frame,
-                         length, buffer, size, reply, sizeof reply));
+    line_send(&to_machine, length > 0
+                               ? mop_dump_update_frame(settings, session, frame,
+                                     length, buffer, size, reply, sizeof reply)
+                               : mop_dump_update_timer(settings, session,
+                                     buffer, size, reply, sizeof reply));
 }
 
 /* ---- An image file of one region: its bytes, the directory, the trailer. */

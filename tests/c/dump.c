@@ -11,7 +11,6 @@ static lent record, frame, buffer, reply;
 /* A call: what goes in, but for the buffers. */
 typedef struct input {
     enum call call;
-    uint8_t timer; /* of mop_dump_update */
     mop_dump_settings settings;
     mop_dump session;
     uint8_t frame[BEYOND];
@@ -22,8 +21,7 @@ typedef struct input {
 
 static bool is_timer(const input *in)
 {
-    return in->call == DUMP_TIMER ||
-           (in->call == DUMP_UPDATE && in->timer != 0);
+    return in->call == DUMP_TIMER || in->call == DUMP_UPDATE_TIMER;
 }
 
 static bool good_settings(const mop_dump_settings *s)
@@ -67,19 +65,19 @@ static unsigned wanted(const input *in)
                         : mop_read(in->frame, in->frame_length).refusal;
 }
 
-/* The record stands between guards too. The frame of a timer is not looked
- * at: it is where no byte may be touched. */
+/* The record stands between guards too. */
 static mop_dump_step update(const input *in)
 {
     mop_dump_step step;
-    const uint8_t *from =
-        in->timer == 0 ? lent_in(&frame) : lent_beyond(&frame);
-    const mop_written answer =
-        mop_dump_update(in->settings, (mop_dump *)(void *)lent_bytes(&record),
-            in->timer, from, in->frame_length, lent_out(&buffer),
-            in->buffer_length, lent_out(&reply), in->room);
-    memcpy(&step.session, lent_bytes(&record), sizeof step.session);
-    step.answer = answer;
+    mop_dump *session = (mop_dump *)(void *)lent_bytes(&record);
+    step.answer =
+        is_timer(in)
+            ? mop_dump_update_timer(in->settings, session, lent_in(&buffer),
+                  in->buffer_length, lent_out(&reply), in->room)
+            : mop_dump_update_frame(in->settings, session, lent_in(&frame),
+                  in->frame_length, lent_out(&buffer), in->buffer_length,
+                  lent_out(&reply), in->room);
+    step.session = *session;
     demand(lent_same_from(&record, sizeof step.session),
         "a red zone of the record");
     return step;
@@ -88,7 +86,7 @@ static mop_dump_step update(const input *in)
 static mop_dump_step make_call(const input *in)
 {
     calling(in->call);
-    if (in->call == DUMP_UPDATE)
+    if (in->call == DUMP_UPDATE_FRAME || in->call == DUMP_UPDATE_TIMER)
         return update(in);
     if (in->call == DUMP_TIMER)
         return mop_dump_timer(in->settings, in->session, lent_in(&buffer),
@@ -132,6 +130,8 @@ static void check_answer(const input *in, unsigned refusal, mop_dump_step step)
         demand(step.answer.length == 0, "a frame that should not go out");
         demand(same(step.session, in->session), "the record changed");
     }
+    if (step.answer.length == 0 && step.session.verdict == in->session.verdict)
+        demand(same(step.session, in->session), "neither taken nor ignored");
     check_buffer(in, step.session);
     if (step.answer.length > 0) {
         const mop_fields f = mop_read(lent_bytes(&reply), step.answer.length);
@@ -173,8 +173,7 @@ static void check_calls(input *in)
 {
     in->call = once_in(3) ? DUMP_TIMER : DUMP_FRAME;
     const mop_dump_step by_value = check_call(in);
-    in->timer = (uint8_t)(in->call == DUMP_TIMER ? 1 + below(255) : 0);
-    in->call = DUMP_UPDATE;
+    in->call = is_timer(in) ? DUMP_UPDATE_TIMER : DUMP_UPDATE_FRAME;
     const mop_dump_step in_place = check_call(in);
     demand(same(by_value.session, in_place.session) &&
                by_value.answer.length == in_place.answer.length,

@@ -82,11 +82,6 @@ uint8_t *lent_bytes(const lent *buffer)
     return buffer->pages + buffer->at;
 }
 
-const uint8_t *lent_beyond(const lent *buffer)
-{
-    return buffer->view + buffer->room;
-}
-
 uint8_t *lent_out(const lent *buffer)
 {
     return null_this_time(buffer) ? NULL : lent_bytes(buffer);

@@ -36,9 +36,6 @@ const uint8_t *lent_in(const lent *buffer);
 /* The part, never null. */
 uint8_t *lent_bytes(const lent *buffer);
 
-/* A place where no byte may be touched. */
-const uint8_t *lent_beyond(const lent *buffer);
-
 /* Whether the part from a byte on, and the red zone, are as they were. */
 bool lent_same_from(const lent *buffer, size_t from);
 

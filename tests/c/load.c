@@ -1,6 +1,4 @@
 /* The host's load: any settings, records, files and frames. */
-#include <string.h>
-
 #include "check.h"
 #include "lent.h"
 #include "make.h"
@@ -11,7 +9,6 @@ static lent record, file, frame, reply;
 /* A call: what goes in, but for the buffers. */
 typedef struct input {
     enum call call;
-    uint8_t timer; /* of mop_load_update */
     mop_load_settings settings;
     mop_load session;
     uint8_t file[IMAGE_MOST];
@@ -23,8 +20,7 @@ typedef struct input {
 
 static bool is_timer(const input *in)
 {
-    return in->call == LOAD_TIMER ||
-           (in->call == LOAD_UPDATE && in->timer != 0);
+    return in->call == LOAD_TIMER || in->call == LOAD_UPDATE_TIMER;
 }
 
 /* Whether the record is bad, as far as needs no image. */
@@ -62,18 +58,19 @@ static unsigned wanted(const input *in)
                         : mop_read(in->frame, in->frame_length).refusal;
 }
 
-/* The record stands between guards too. The frame of a timer is not looked
- * at: it is where no byte may be touched. */
+/* The record stands between guards too. */
 static mop_load_step update(const input *in)
 {
     mop_load_step step;
-    const uint8_t *from =
-        in->timer == 0 ? lent_in(&frame) : lent_beyond(&frame);
-    const mop_written answer = mop_load_update(in->settings,
-        (mop_load *)(void *)lent_bytes(&record), in->timer, lent_in(&file),
-        in->file_length, from, in->frame_length, lent_out(&reply), in->room);
-    memcpy(&step.session, lent_bytes(&record), sizeof step.session);
-    step.answer = answer;
+    mop_load *session = (mop_load *)(void *)lent_bytes(&record);
+    step.answer =
+        is_timer(in)
+            ? mop_load_update_timer(in->settings, session, lent_in(&file),
+                  in->file_length, lent_out(&reply), in->room)
+            : mop_load_update_frame(in->settings, session, lent_in(&file),
+                  in->file_length, lent_in(&frame), in->frame_length,
+                  lent_out(&reply), in->room);
+    step.session = *session;
     demand(lent_same_from(&record, sizeof step.session),
         "a red zone of the record");
     return step;
@@ -82,7 +79,7 @@ static mop_load_step update(const input *in)
 static mop_load_step make_call(const input *in)
 {
     calling(in->call);
-    if (in->call == LOAD_UPDATE)
+    if (in->call == LOAD_UPDATE_FRAME || in->call == LOAD_UPDATE_TIMER)
         return update(in);
     if (in->call == LOAD_TIMER)
         return mop_load_timer(in->settings, in->session, lent_in(&file),
@@ -106,6 +103,8 @@ static void check_answer(const input *in, unsigned refusal, mop_load_step step)
         demand(step.answer.length == 0, "a frame that should not go out");
         demand(same(step.session, in->session), "the record changed");
     }
+    if (step.answer.length == 0 && step.session.verdict == in->session.verdict)
+        demand(same(step.session, in->session), "neither taken nor ignored");
     if (step.answer.length > 0) {
         const mop_fields f = mop_read(lent_bytes(&reply), step.answer.length);
         demand(
@@ -146,8 +145,7 @@ static void check_calls(input *in)
 {
     in->call = once_in(3) ? LOAD_TIMER : LOAD_FRAME;
     const mop_load_step by_value = check_call(in);
-    in->timer = (uint8_t)(in->call == LOAD_TIMER ? 1 + below(255) : 0);
-    in->call = LOAD_UPDATE;
+    in->call = is_timer(in) ? LOAD_UPDATE_TIMER : LOAD_UPDATE_FRAME;
     const mop_load_step in_place = check_call(in);
     demand(same(by_value.session, in_place.session) &&
                by_value.answer.length == in_place.answer.length,

@@ -66,6 +66,8 @@ static void check_answer(const input *in, unsigned refusal, mop_loop_step step)
         demand(step.answer.length == 0, "a frame that should not go out");
         demand(same(step.session, in->session), "the record changed");
     }
+    if (step.answer.length == 0 && step.session.verdict == in->session.verdict)
+        demand(same(step.session, in->session), "neither taken nor ignored");
     if (step.answer.length > 0) {
         const mop_fields f = mop_read(lent_bytes(&reply), step.answer.length);
         demand(f.code == MOP_CODE_LOOP && f.receipt == in->settings.receipt &&

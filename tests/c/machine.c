@@ -73,6 +73,9 @@ static void check_answer(
         return;
     }
     demand(step.machine.state <= MOP_MACHINE_STARTED, "a state that is none");
+    if (step.answer.length == 0 && step.machine.state == in->machine.state)
+        demand(same(step.machine, in->machine) && lent_same_from(&memory, 0),
+            "neither taken nor ignored");
     if (step.answer.length > 0)
         demand(mop_read(lent_bytes(&reply), step.answer.length).refusal == 0,
             "a reply that can't be read");

@@ -44,15 +44,15 @@ static int program_refusal(const uint8_t *bytes, size_t length)
     return MOP_ACCEPTED;
 }
 
-/* Every field but the refusal is 0. */
+/* No code, and every field but the refusal is 0. */
 static bool is_blank(const mop_fields *f)
 {
     return f->data_at == 0 && f->data_length == 0 && f->id_at == 0 &&
            f->id_length == 0 && f->address == 0 && f->transfer == 0 &&
            f->memory_size == 0 && f->count == 0 && f->receipt == 0 &&
-           f->code == 0 && f->number == 0 && f->error == 0 && f->device == 0 &&
-           f->format == 0 && f->program == 0 && f->form == 0 &&
-           f->processor == 0 && f->compatibility == 0;
+           f->code == MOP_CODE_NONE && f->number == 0 && f->error == 0 &&
+           f->device == 0 && f->format == 0 && f->program == 0 &&
+           f->form == 0 && f->processor == 0 && f->compatibility == 0;
 }
 
 /* An accepted frame is what its writer writes of its fields. */

@@ -27,14 +27,14 @@ mop_dump_step REAL(mop_dump_frame)(mop_dump_settings, mop_dump, const uint8_t *,
 mop_dump_step WRAP(mop_dump_frame)(mop_dump_settings, mop_dump, const uint8_t *,
     size_t, uint8_t *, size_t, uint8_t *, size_t);
 
-mop_written REAL(mop_load_update)(mop_load_settings, mop_load *, uint8_t,
+mop_written REAL(mop_load_update_frame)(mop_load_settings, mop_load *,
     const uint8_t *, size_t, const uint8_t *, size_t, uint8_t *, size_t);
-mop_written WRAP(mop_load_update)(mop_load_settings, mop_load *, uint8_t,
+mop_written WRAP(mop_load_update_frame)(mop_load_settings, mop_load *,
     const uint8_t *, size_t, const uint8_t *, size_t, uint8_t *, size_t);
-mop_written REAL(mop_dump_update)(mop_dump_settings, mop_dump *, uint8_t,
-    const uint8_t *, size_t, uint8_t *, size_t, uint8_t *, size_t);
-mop_written WRAP(mop_dump_update)(mop_dump_settings, mop_dump *, uint8_t,
-    const uint8_t *, size_t, uint8_t *, size_t, uint8_t *, size_t);
+mop_written REAL(mop_dump_update_timer)(
+    mop_dump_settings, mop_dump *, const uint8_t *, size_t, uint8_t *, size_t);
+mop_written WRAP(mop_dump_update_timer)(
+    mop_dump_settings, mop_dump *, const uint8_t *, size_t, uint8_t *, size_t);
 
 #if WRONG == 1 /* looks at the byte behind the frame */
 mop_fields WRAP(mop_read)(const uint8_t *frame, size_t length)
@@ -142,31 +142,44 @@ mop_dump_step WRAP(mop_dump_frame)(mop_dump_settings settings, mop_dump session,
     return step;
 }
 #elif WRONG == 13 /* counts a frame that it refuses */
-mop_written WRAP(mop_load_update)(mop_load_settings settings, mop_load *session,
-    uint8_t timer, const uint8_t *file, size_t size, const uint8_t *frame,
+mop_written WRAP(mop_load_update_frame)(mop_load_settings settings,
+    mop_load *session, const uint8_t *file, size_t size, const uint8_t *frame,
     size_t length, uint8_t *reply, size_t room)
 {
-    const mop_written answer = REAL(mop_load_update)(
-        settings, session, timer, file, size, frame, length, reply, room);
+    const mop_written answer = REAL(mop_load_update_frame)(
+        settings, session, file, size, frame, length, reply, room);
     session->sent += answer.refusal != 0;
     return answer;
 }
-#elif WRONG == 14 /* looks at the frame of a timer */
-mop_written WRAP(mop_dump_update)(mop_dump_settings settings, mop_dump *session,
-    uint8_t timer, const uint8_t *frame, size_t length, uint8_t *buffer,
-    size_t size, uint8_t *reply, size_t room)
+#elif WRONG == 14 /* looks at the byte behind the dump buffer */
+mop_written WRAP(mop_dump_update_timer)(mop_dump_settings settings,
+    mop_dump *session, const uint8_t *buffer, size_t size, uint8_t *reply,
+    size_t room)
 {
-    if (length > 0)
-        (void)*(volatile const uint8_t *)frame;
-    return REAL(mop_dump_update)(
-        settings, session, timer, frame, length, buffer, size, reply, room);
+    (void)*(volatile const uint8_t *)(buffer + size);
+    return REAL(mop_dump_update_timer)(
+        settings, session, buffer, size, reply, room);
 }
-#elif WRONG == 15 /* takes only 1 for a timer */
-mop_written WRAP(mop_dump_update)(mop_dump_settings settings, mop_dump *session,
-    uint8_t timer, const uint8_t *frame, size_t length, uint8_t *buffer,
+#elif WRONG == 15 /* leaves the record as it was */
+mop_written WRAP(mop_dump_update_timer)(mop_dump_settings settings,
+    mop_dump *session, const uint8_t *buffer, size_t size, uint8_t *reply,
+    size_t room)
+{
+    const mop_dump before = *session;
+    const mop_written answer = REAL(mop_dump_update_timer)(
+        settings, session, buffer, size, reply, room);
+    *session = before;
+    return answer;
+}
+#elif WRONG == 16 /* changes the record on a frame that it ignores */
+mop_machine_step WRAP(mop_machine_frame)(mop_machine_settings settings,
+    mop_machine machine, const uint8_t *frame, size_t length, uint8_t *memory,
     size_t size, uint8_t *reply, size_t room)
 {
-    return REAL(mop_dump_update)(settings, session, timer == 1, frame, length,
-        buffer, size, reply, room);
+    mop_machine_step step = REAL(mop_machine_frame)(
+        settings, machine, frame, length, memory, size, reply, room);
+    if (step.answer.refusal == 0 && step.answer.length == 0)
+        step.machine.error ^= 1;
+    return step;
 }
 #endif

@@ -383,7 +383,7 @@ fn fields(answer: Result<Frame, u8>, bytes: &[u8]) -> mop_proved::Fields {
     let frame = match answer {
         Ok(frame) => frame,
         Err(refusal) => {
-            c.refusal = refusal;
+            (c.refusal, c.code) = (refusal, 255);
             return c;
         }
     };

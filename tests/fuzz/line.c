@@ -67,6 +67,25 @@ static bool for_this_end(const contents *raw)
     return to && memcmp(b + 6, OWN, 6) != 0 && says <= 1500 && says + 16 <= raw->length;
 }
 
+/* By the kernel's word on it: taken if it was sent to this computer, and told if another program here sent it. */
+static void check_type(line *l, const contents *raw, bool good)
+{
+    static const uint8_t types[] = {
+        PACKET_HOST, PACKET_BROADCAST, PACKET_MULTICAST, PACKET_OTHERHOST, PACKET_OUTGOING, PACKET_LOOPBACK};
+    line_frame frame;
+    uint8_t type = types[below(sizeof types)];
+    line_event want = LINE_QUIET;
+    if (raw->length < HEADER) /* no Ethernet frame */
+        return;
+    l->alone = one_in(2);
+    if (type == PACKET_OUTGOING && l->alone && memcmp(raw->bytes + 6, OWN, 6) == 0)
+        want = LINE_SHARED;
+    if ((type == PACKET_HOST || type == PACKET_MULTICAST) && good)
+        want = LINE_FRAME;
+    require(
+        judge(l, type, raw->bytes, raw->length, &frame) == want, "a frame is taken, told or passed over by its type");
+}
+
 bool fuzz_raw(void)
 {
     uint8_t message[MOP_FRAME_MOST + 20];
@@ -89,6 +108,7 @@ bool fuzz_raw(void)
         for (size_t i = frame.length; i < sizeof frame.bytes; i++)
             require(frame.bytes[i] == 0xEE, "nothing behind a message is written");
     }
+    check_type(&l, &raw, taken);
     free(raw.bytes);
     return taken;
 }

@@ -1,9 +1,16 @@
-//! Compares include/mop.h with the Rattle source, as text: each exported call's
-//! parameters and answer, and each struct's fields, by name, type and order. A
-//! struct of the source is the one that the header has in the same place.
-//! Ends with 1 on any difference.
+//! header [FILE]: compares include/mop.h, or another file, with the Rattle
+//! source, as text: each exported call's parameters and answer, and each
+//! struct's fields, by name, type and order. A struct of the source is the one
+//! that the header has in the same place. The codes of its enum are those at
+//! the writers, the image drawn in it is the rehearsal's first one, and a number
+//! of its comments with a comma in it is that of a name. Ends with 1 on any
+//! difference.
+//!
+//! header --fields [FILE]: prints a line for each struct and each field, for
+//! tests/layout/layout.c.
 
 use std::collections::{BTreeMap, BTreeSet};
+use std::env;
 use std::fs;
 use std::process::ExitCode;
 
@@ -14,25 +21,38 @@ const NAMES: [(&str, &str); 2] = [("bytes", "data"), ("size", "memory_size")];
 type Parts = BTreeMap<String, Vec<String>>;
 
 fn main() -> ExitCode {
-    let header = header();
-    let (source, structs) = source(&header);
-    let names: BTreeSet<&String> = header.keys().chain(source.keys()).collect();
-    let mut good = true;
-    for name in names {
-        if header.get(name) != source.get(name) {
-            println!("DIFFERENCE: {name}");
-            println!("  header {:?}", header.get(name));
-            println!("  source {:?}", source.get(name));
-            good = false;
-        }
+    let mut arguments: Vec<String> = env::args().skip(1).collect();
+    let list = arguments.first().is_some_and(|first| first == "--fields");
+    if list {
+        arguments.remove(0);
     }
+    let whole = text(arguments.first().map_or("include/mop.h", |path| path));
+    if list {
+        print_fields(&whole);
+        return ExitCode::SUCCESS;
+    }
+    let (header, image) = (header(&whole), drawn_image(&whole));
+    let (source, structs) = source(&header);
+    let mut different = differences("a call or struct", &header, &source);
+    different += differences("a code", &codes(&whole), &written_codes(&whole));
+    different += differences("the image", &image, &first_image());
+    different += unnamed(&whole);
     let calls = source.len() - structs;
     println!("header: {calls} calls and {structs} structs, compared with the source");
-    if good {
-        ExitCode::SUCCESS
-    } else {
-        ExitCode::FAILURE
+    ExitCode::from(u8::from(different > 0))
+}
+
+/// How many parts differ, or stand on one side alone; prints them.
+fn differences(what: &str, header: &Parts, other: &Parts) -> usize {
+    let names: BTreeSet<&String> = header.keys().chain(other.keys()).collect();
+    let differ = |name: &&&String| header.get(**name) != other.get(**name);
+    let different: Vec<&&String> = names.iter().filter(differ).collect();
+    for name in &different {
+        println!("DIFFERENCE in {what}: {name}");
+        println!("  header {:?}", header.get(**name));
+        println!("  beside {:?}", other.get(**name));
     }
+    different.len()
 }
 
 fn text(path: &str) -> String {
@@ -52,28 +72,97 @@ fn words(text: &str) -> String {
 
 // ---- the header
 
-fn header() -> Parts {
-    let text = text("include/mop.h");
-    let without_comments: String = text
-        .split("/*")
-        .enumerate()
-        .map(|(i, part)| {
-            if i == 0 {
-                part
-            } else {
-                part.split_once("*/").map_or("", |p| p.1)
-            }
-        })
-        .collect();
-    let mut parts = Parts::new();
-    for body in between(&without_comments, "typedef struct ", "\n}") {
+fn without_comments(text: &str) -> String {
+    let mut parts = text.split("/*");
+    let first = parts.next().unwrap_or("");
+    let rest = parts.map(|part| part.split_once("*/").map_or("", |p| p.1));
+    first.to_string() + &rest.collect::<String>()
+}
+
+/// The structs in their order, each with its fields.
+fn structs(without_comments: &str) -> Vec<(String, Vec<String>)> {
+    let structs = between(without_comments, "typedef struct ", "\n}").map(|body| {
         let (name, fields) = body.split_once('{').unwrap_or((body, ""));
-        let fields = fields
-            .split(';')
-            .map(words)
-            .filter(|field| !field.is_empty());
-        parts.insert(name.trim().to_string(), fields.collect());
+        let fields = fields.split(';').map(words);
+        let fields = fields.filter(|field| !field.is_empty());
+        (name.trim().to_string(), fields.collect())
+    });
+    structs.collect()
+}
+
+fn print_fields(text: &str) {
+    for (name, fields) in structs(&without_comments(text)) {
+        println!("SIZE({name})");
+        for field in fields.iter().filter_map(|field| field.rsplit(' ').next()) {
+            println!("PLACE({name}, {field})");
+        }
     }
+}
+
+/// The codes of the enum but MOP_CODE_NONE: the writer's name, then the number
+/// and what it is called.
+fn codes(text: &str) -> Parts {
+    let body = between(text, "enum mop_code {", "};").next().unwrap_or("");
+    let codes = body.lines().filter_map(|line| {
+        let (name, rest) = line.trim().strip_prefix("MOP_CODE_")?.split_once(" = ")?;
+        let (number, called) = rest.split_once("/*")?;
+        let number = number.trim().trim_end_matches(',');
+        let called = words(called.trim_end_matches("*/"));
+        let writer = format!("mop_write_{}", name.to_lowercase());
+        (name != "NONE").then(|| (writer, vec![format!("Code {number}, {called}")]))
+    });
+    codes.collect()
+}
+
+/// The same, as the comment at each writer says it.
+fn written_codes(text: &str) -> Parts {
+    let writers = between(text, "/* Code ", "(").filter_map(|part| {
+        let (comment, name) = part.rsplit_once("mop_written ")?;
+        let (said, _) = comment.split_once(':')?;
+        Some((name.to_string(), vec![format!("Code {said}")]))
+    });
+    writers.collect()
+}
+
+/// The bytes of the image that is drawn in the header.
+fn drawn_image(text: &str) -> Parts {
+    let drawn = between(text, "which starts there:\n", "Refused").next();
+    let rows = drawn.unwrap_or("").lines();
+    let bytes = rows.flat_map(|row| row.split_whitespace().skip(1).take_while(hexadecimal));
+    Parts::from([("bytes".to_string(), vec![bytes.collect()])])
+}
+
+fn hexadecimal(word: &&str) -> bool {
+    word.len() == 2 && word.bytes().all(|byte| byte.is_ascii_hexdigit())
+}
+
+/// The rehearsal's first image.
+fn first_image() -> Parts {
+    let text = text("examples/first.txt");
+    let line = text.lines().nth(1).unwrap_or("");
+    Parts::from([("bytes".to_string(), vec![line.to_string()])])
+}
+
+/// How many numbers such as 1,490 are neither that of a name nor the number of
+/// addresses; prints them.
+fn unnamed(text: &str) -> usize {
+    let named = text.lines().filter_map(|line| line.split_once(" = "));
+    let named = named.map(|(_, rest)| rest.split([',', ' ']).next().unwrap_or(""));
+    let named: BTreeSet<&str> = named.chain(["4294967296"]).collect();
+    let not_digit = |letter: char| !letter.is_ascii_digit() && letter != ',';
+    let numbers = text.split(not_digit).map(|word| word.trim_matches(','));
+    let unnamed =
+        |number: &&str| number.contains(',') && !named.contains(number.replace(',', "").as_str());
+    let unnamed: Vec<&str> = numbers.filter(unnamed).collect();
+    for number in &unnamed {
+        println!("DIFFERENCE: {number} in a comment is the number of no name");
+    }
+    unnamed.len()
+}
+
+fn header(text: &str) -> Parts {
+    let without_comments = without_comments(text);
+    let mut parts = Parts::from_iter(structs(&without_comments));
     for statement in without_comments.split(';').map(words) {
         let Some((head, parameters)) = statement.split_once('(') else {
             continue;

@@ -70,56 +70,6 @@ pub struct Step<Record> {
     pub answer: Written,
 }
 
-// The same numbers as in layout.c.
-layout!(MachineSettings, 8, [
-    reply_bytes 0 4,
-    device 4 1,
-    processor 5 1,
-]);
-layout!(Machine, 8, [
-    transfer 0 4,
-    state 4 1,
-    expected 5 1,
-    error 6 1,
-]);
-layout!(Step<Machine>, 24, [
-    record 0 8,
-    answer 8 16,
-]);
-layout!(LoadSettings, 8, [
-    segment_size 0 4,
-    repeats 4 4,
-]);
-layout!(Load, 24, [
-    position 0 8,
-    sent 8 8,
-    repeats 16 4,
-    waiting 20 1,
-    verdict 21 1,
-]);
-layout!(Step<Load>, 40, [
-    record 0 24,
-    answer 24 16,
-]);
-layout!(DumpSettings, 24, [
-    length 0 8,
-    address 8 4,
-    request_bytes 12 4,
-    repeats 16 4,
-]);
-layout!(Dump, 32, [
-    filled 0 8,
-    replies 8 8,
-    sent 16 8,
-    repeats 24 4,
-    waiting 28 1,
-    verdict 29 1,
-]);
-layout!(Step<Dump>, 48, [
-    record 0 32,
-    answer 32 16,
-]);
-
 unsafe extern "C" {
     pub fn mop_machine_start_load(
         settings: MachineSettings,
@@ -191,10 +141,9 @@ unsafe extern "C" {
         reply: *mut u8,
         reply_length: usize,
     ) -> Step<Dump>;
-    pub fn mop_load_update(
+    pub fn mop_load_update_frame(
         settings: LoadSettings,
         session: *mut Load,
-        timer: u8,
         file: *const u8,
         file_length: usize,
         frame: *const u8,
@@ -202,13 +151,28 @@ unsafe extern "C" {
         reply: *mut u8,
         reply_length: usize,
     ) -> Written;
-    pub fn mop_dump_update(
+    pub fn mop_load_update_timer(
+        settings: LoadSettings,
+        session: *mut Load,
+        file: *const u8,
+        file_length: usize,
+        reply: *mut u8,
+        reply_length: usize,
+    ) -> Written;
+    pub fn mop_dump_update_frame(
         settings: DumpSettings,
         session: *mut Dump,
-        timer: u8,
         frame: *const u8,
         frame_length: usize,
         buffer: *mut u8,
+        buffer_length: usize,
+        reply: *mut u8,
+        reply_length: usize,
+    ) -> Written;
+    pub fn mop_dump_update_timer(
+        settings: DumpSettings,
+        session: *mut Dump,
+        buffer: *const u8,
         buffer_length: usize,
         reply: *mut u8,
         reply_length: usize,
@@ -304,21 +268,18 @@ pub fn load_timer(
     unsafe { mop_load_timer(settings, session, image, file.len(), to, reply.len()) }
 }
 
-/// `timer` is 0 where a frame has come.
-pub fn load_update(
+pub fn load_update_frame(
     settings: LoadSettings,
     session: &mut Load,
-    timer: u8,
     file: &[u8],
     frame: &[u8],
     reply: &mut [u8],
 ) -> Written {
     let (image, from, to) = (input(file), input(frame), output(reply));
     unsafe {
-        mop_load_update(
+        mop_load_update_frame(
             settings,
             session,
-            timer,
             image,
             file.len(),
             from,
@@ -327,6 +288,16 @@ pub fn load_update(
             reply.len(),
         )
     }
+}
+
+pub fn load_update_timer(
+    settings: LoadSettings,
+    session: &mut Load,
+    file: &[u8],
+    reply: &mut [u8],
+) -> Written {
+    let (image, to) = (input(file), output(reply));
+    unsafe { mop_load_update_timer(settings, session, image, file.len(), to, reply.len()) }
 }
 
 pub fn dump_start() -> Dump {
@@ -365,20 +336,18 @@ pub fn dump_timer(
     unsafe { mop_dump_timer(settings, session, from, buffer.len(), to, reply.len()) }
 }
 
-pub fn dump_update(
+pub fn dump_update_frame(
     settings: DumpSettings,
     session: &mut Dump,
-    timer: u8,
     frame: &[u8],
     buffer: &mut [u8],
     reply: &mut [u8],
 ) -> Written {
     let (from, store, to) = (input(frame), output(buffer), output(reply));
     unsafe {
-        mop_dump_update(
+        mop_dump_update_frame(
             settings,
             session,
-            timer,
             from,
             frame.len(),
             store,
@@ -387,4 +356,14 @@ pub fn dump_update(
             reply.len(),
         )
     }
+}
+
+pub fn dump_update_timer(
+    settings: DumpSettings,
+    session: &mut Dump,
+    buffer: &[u8],
+    reply: &mut [u8],
+) -> Written {
+    let (from, to) = (input(buffer), output(reply));
+    unsafe { mop_dump_update_timer(settings, session, from, buffer.len(), to, reply.len()) }
 }

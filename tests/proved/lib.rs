@@ -1,30 +1,15 @@
 //! The proved library, libmop.a: the header's calls, and safe functions over
 //! them for the comparison.
 //!
-//! The declarations mirror include/mop.h. The layout of the structs is fixed
-//! here and, for the header, in layout.c; the rest is left to the eye and the
-//! comparison. A slice goes over as a pointer and a length.
-
-/// Fixes a struct's size, and each field's place and bytes: the same numbers
-/// as in layout.c. A field that is left out does not compile.
-macro_rules! layout {
-    ($type:ident $(<$of:ident>)?, $size:literal, [$($field:ident $place:literal $bytes:literal),+ $(,)?]) => {
-        const _: () = {
-            type Whole = $type $(<$of>)?;
-            const fn bytes<F>(_: fn(&Whole) -> &F) -> usize {
-                size_of::<F>()
-            }
-            let _ = |$type { $($field: _),+ }: Whole| ();
-            assert!(size_of::<Whole>() == $size);
-            $(assert!(std::mem::offset_of!(Whole, $field) == $place);)+
-            $(assert!(bytes(|whole| &whole.$field) == $bytes);)+
-        };
-    };
-}
+//! The declarations mirror include/mop.h. `make layout` compares the structs'
+//! layout with the header's; the rest is left to the eye and the comparison. A
+//! slice goes over as a pointer and a length.
 
 mod ends;
+mod layout;
 mod looping;
 pub use ends::*;
+pub use layout::layout;
 pub use looping::*;
 
 use std::ptr;
@@ -83,46 +68,6 @@ pub struct Segment {
     pub last: u8,
     pub refusal: u8,
 }
-
-// The same numbers as in layout.c.
-layout!(Fields, 64, [
-    data_at 0 8,
-    data_length 8 8,
-    id_at 16 8,
-    id_length 24 8,
-    address 32 4,
-    transfer 36 4,
-    memory_size 40 4,
-    count 44 2,
-    receipt 46 2,
-    refusal 48 1,
-    code 49 1,
-    number 50 1,
-    error 51 1,
-    device 52 1,
-    format 53 1,
-    program 54 1,
-    form 55 1,
-    processor 56 1,
-    compatibility 57 1,
-]);
-layout!(Written, 16, [
-    length 0 8,
-    refusal 8 1,
-]);
-layout!(Image, 16, [
-    segments 0 8,
-    transfer 8 4,
-    regions 12 2,
-    refusal 14 1,
-]);
-layout!(Segment, 24, [
-    at 0 8,
-    length 8 8,
-    address 16 4,
-    last 20 1,
-    refusal 21 1,
-]);
 
 #[link(name = "mop", kind = "static")]
 unsafe extern "C" {

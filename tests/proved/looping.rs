@@ -19,21 +19,6 @@ pub struct Loop {
     pub verdict: u8,
 }
 
-// The same numbers as in layout.c.
-layout!(LoopSettings, 8, [
-    repeats 0 4,
-    receipt 4 2,
-]);
-layout!(Loop, 16, [
-    sent 0 8,
-    repeats 8 4,
-    verdict 12 1,
-]);
-layout!(Step<Loop>, 32, [
-    record 0 16,
-    answer 16 16,
-]);
-
 unsafe extern "C" {
     pub fn mop_loop_start(
         settings: LoopSettings,

@@ -4,13 +4,16 @@ use mathlib.Core.Path.{_≡_, refl}
 use mathlib.Core.List.{List, [], _∷_, _++_}
 use lib.ListN.{take, replicate}
 use Rattle.octets.specs.Number.{number, low}
-use Rattle.entries.specs.Entries.{next, walk, field}
-use Rattle.message.specs.Message.{least, leastIn, memoryLoadTransfer, requestLoad, parameters}
-use Rattle.message.specs.Read.{refused, message, byCode, fields, read}
+use Rattle.entries_next.specs.Next.{next}
+use Rattle.entries.specs.Entries.{walk}
+use Rattle.host_time.specs.HostTime.{field}
+use Rattle.message.specs.Message.{memoryLoadTransfer, requestLoad, parameters}
+use Rattle.message.specs.Read.{refused, message, find, fields, read}
 use Rattle.message.specs.Write.{layout}
 use Rattle.memory.specs.Memory.{fits, bytesFrom}
 use Rattle.step.specs.Step.{Outcome, first}
-use Rattle.image.specs.Image.{trailerOf, entryOf, entries, demand, entriesRefusal, refusal, many, regions}
+use Rattle.directory.specs.Directory.{trailerOf, entryOf, entries, demand, entriesRefusal, refusal, regions}
+use Rattle.image.specs.Image.{many}
 use Rattle.machine_next.specs.declared.Machine.{Machine}
 use Rattle.machine_next.specs.Next.{idle, loading, byNumber, onLoad}
 use Rattle.machine.specs.Machine.{machineFrame}
@@ -73,7 +76,7 @@ pub record Cases : Type 0 where
       ≡ seen idle memory (0x0E ∷ 0x06 ∷ 0x00 ∷ 0x00 ∷ 0x00 ∷ 7 ∷ 8 ∷ 0 ∷ 0 ∷ [])
 
 pub cases : Cases
-unfolding number low least leastIn byCode fields read layout first fits bytesFrom byNumber onLoad next walk field trailerOf entryOf entries demand entriesRefusal many image hostTime step
+unfolding number low find fields read layout first fits bytesFrom byNumber onLoad next walk field trailerOf entryOf entries demand entriesRefusal many image hostTime step
 cases =
     record {
       K1 = refl;

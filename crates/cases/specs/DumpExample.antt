@@ -5,8 +5,7 @@ use mathlib.Core.Bool.{true}
 use mathlib.Core.List.{List, [], _∷_}
 use lib.ListN.{replicate}
 use Rattle.octets.specs.Number.{number, low}
-use Rattle.message.specs.Message.{least, leastIn}
-use Rattle.message.specs.Read.{byCode, fields}
+use Rattle.message.specs.Read.{find, fields}
 use Rattle.message.specs.Write.{layout}
 use Rattle.memory.specs.Memory.{bytesFrom}
 use Rattle.step.specs.Step.{first}
@@ -15,13 +14,13 @@ use Rattle.machine_next.specs.Next as machine
 use Rattle.dump_next.specs.declared.Settings.{Settings as DumpSettings}
 use Rattle.dump.specs.Dump as dump
 use Rattle.link.specs.Link.{Event, own, handToMachine, handToHost, hostTimer, run}
-use Rattle.link_dump.specs.Theorem.{after}
+use Rattle.link_dump.specs.Model.{after}
 
 -- 3 bytes from address 1, at most 2 at a time, one repeat; a memory of 3 bytes
-abbrev s : DumpSettings
+abbrev pub s : DumpSettings
 s = record { length = 3; address = 1; «request_bytes» = 2; repeats = 1 }
 
-abbrev ms : MachineSettings
+abbrev pub ms : MachineSettings
 ms = record { «reply_bytes» = 1495; device = 0; processor = 0 }
 
 accepted : (dump.settled s 3 ≡ true) × (machine.refusal ms machine.offering 3 1500 ≡ 0)
@@ -41,5 +40,5 @@ finishes : after s ms (7 ∷ 8 ∷ 9 ∷ []) (5 ∷ 5 ∷ 5 ∷ []) events .host
   session = record { filled = 3; replies = 2; sent = 4; repeats = 0; waiting = 0; verdict = 1 };
   buffer = 8 ∷ 9 ∷ 0 ∷ [];
 }
-unfolding run byCode fields least leastIn layout low number first bytesFrom
+unfolding run find fields layout low number first bytesFrom
 finishes = refl

@@ -1,3 +1,4 @@
 pub mod Cases
 pub mod LoadExample
 pub mod DumpExample
+pub mod Impostors

@@ -9,7 +9,7 @@ use lib.ListN.{length, getD, take, drop, length-drop, drop-of-length-le}
 use lib.Seq.{drop-cons, take-all}
 use lib.Dec.{eqb}
 use borrow.Author.Tests.{ne-eqb, lt-ltb, le-ltb}
-use Rattle.octets.specs.Cases.{by-cases}
+use Rattle.octets.specs.TestLaws.{by-cases}
 use Rattle.digits.specs.Digits.{nibble, digits}
 use Rattle.digits.specs.Laws.{length-digits}
 use Rattle.decimal.specs.Decimal.{trimmed, decimal, areDigits, value}

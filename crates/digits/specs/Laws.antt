@@ -7,7 +7,7 @@ use lib.ListN.{length, take, drop, set, length-append}
 use lib.Seq.{drop-length, drop-at, set-split, length-take-le}
 use lib.Dec.{leb, ltb}
 use borrow.Author.Tests.{leb-true, ltb-true, ltb-false, le-leb, lt-leb}
-use Rattle.octets.specs.Cases.{by-cases, both}
+use Rattle.octets.specs.TestLaws.{by-cases, both}
 use Rattle.digits.specs.Digits.{digit, within, nibble, digits}
 
 pub length-digits : (base k n : ℕ) → length (digits base k n) ≡ k

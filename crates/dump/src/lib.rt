@@ -1,16 +1,14 @@
-// The calls of the host's end of a dump (paper 01, 'Host end'): refusals, counts, and the bytes that go in and out.
+// The calls of the host's end of a dump (paper 01, 'Host end'): the bytes that go in and out.
 ghost use mathlib.Core.Path.{_≡_};
 ghost use mathlib.Core.List.{List};
-ghost use mathlib.Core.Bool.{true, not, cond};
 ghost use Prim.Native.Nat.{ℕ, _+_, _≤_, _<_, _^_};
 ghost use lib.ListN.{length};
-ghost use lib.Dec.{eqb};
 ghost use Rattle.octets.specs.Lay.{refused, Came};
 ghost use Rattle.message.specs.Message.{requestDump};
 ghost use Rattle.message.specs.Write.{sent};
 ghost use Rattle.step.specs.Step.{gives, Leaves};
 ghost use Rattle.dump_next.specs.Next.{fresh, place, asked};
-ghost use Rattle.dump.specs.Dump.{settled, blank, sound, refusal, replies, frames, counted, filled, does, dumpFrame, dumpTimer};
+ghost use Rattle.dump.specs.Dump.{counted, filled, does, dumpFrame, dumpTimer};
 ghost use Rattle.dump.specs.Inner.{Room, Ready};
 use dump_next::Next;
 use dump_next::Sends;
@@ -32,110 +30,6 @@ pub fn start() -> Session
     dump_next::start()
 }
 
-// The settings are within their ranges, and the dump buffer has just the range's length.
-fn settled(s: Settings, size: usize) -> bool
-    ensures { λ r. ⌜ r ≡ settled s size ⌝ }
-{
-    if s.request_bytes < 1 {
-        return false;
-    }
-    if 1495 < s.request_bytes {
-        return false;
-    }
-    if 255 < s.repeats {
-        return false;
-    }
-    if s.length < 1 {
-        return false;
-    }
-    if 4294967296 < s.length {
-        return false;
-    }
-    let end = s.address as u64 + s.length;
-    if 4294967296 < end {
-        return false;
-    }
-    size as u64 == s.length
-}
-
-// A waiting record has every number 0.
-fn unstarted(h: Session) -> bool
-    ensures { λ r. ⌜ r ≡ cond (eqb (h .waiting) 1) (blank h) true ⌝ }
-{
-    if h.waiting != 1 {
-        return true;
-    }
-    if h.verdict != 0 {
-        return false;
-    }
-    if h.filled != 0 {
-        return false;
-    }
-    if h.replies != 0 {
-        return false;
-    }
-    if h.repeats != 0 {
-        return false;
-    }
-    h.sent == 0
-}
-
-// A record is full just if its verdict is 1.
-fn agrees(s: Settings, h: Session) -> bool
-    ensures { λ r. ⌜ r ≡ cond (eqb (h .verdict) 1) (eqb (h .filled) (s .length)) (not (eqb (h .filled) (s .length))) ⌝ }
-{
-    if h.verdict == 1 {
-        return h.filled == s.length;
-    }
-    h.filled != s.length
-}
-
-// The record is not bad.
-fn sound(s: Settings, h: Session) -> bool
-    requires { ⌜ (s .length ≤ 4294967296) × (s .repeats ≤ 255) ⌝ }
-    ensures { λ r. ⌜ r ≡ sound s h ⌝ }
-{
-    if 3 < h.verdict {
-        return false;
-    }
-    if s.repeats < h.repeats {
-        return false;
-    }
-    if s.length < h.filled {
-        return false;
-    }
-    if h.filled < h.replies {
-        return false;
-    }
-    let most = (h.replies + 1) * (s.repeats as u64 + 1) + 1;
-    if most < h.sent {
-        return false;
-    }
-    if 1 < h.waiting {
-        return false;
-    }
-    if !unstarted(h) {
-        return false;
-    }
-    agrees(s, h)
-}
-
-// A call's refusal: 10, then 9; 0 is none.
-fn refusal(s: Settings, h: Session, size: usize, room: usize) -> u8
-    ensures { λ r. ⌜ r ≡ refusal s h size room ⌝ }
-{
-    if !settled(s, size) {
-        return 10;
-    }
-    if !sound(s, h) {
-        return 10;
-    }
-    if room < 1500 {
-        return 9;
-    }
-    0
-}
-
 // The record stays, and a refusal is answered.
 fn refused(h: Session, refusal: u8) -> Stepped
     ensures { λ r. ⌜ (r .session ≡ h) × (r .answer ≡ refused refusal) ⌝ }
@@ -146,27 +40,6 @@ fn refused(h: Session, refusal: u8) -> Stepped
     }
 }
 
-// How many replies are taken.
-fn replies(takes: bool) -> u64
-    ensures { λ r. ⌜ r ≡ replies takes ⌝ }
-{
-    if takes {
-        return 1;
-    }
-    0
-}
-
-// How many frames go out.
-fn frames(sends: Sends) -> u64
-    ensures { λ r. ⌜ r ≡ frames sends ⌝ }
-{
-    match sends {
-        Sends::Nothing => 0,
-        Sends::Request => 1,
-        Sends::Complete => 1,
-    }
-}
-
 // The record with its counts raised.
 fn counted(n: Next) -> Session
     requires { ⌜ (n .session .replies < 2 ^ 62) × (n .session .sent < 2 ^ 62) ⌝ }
@@ -174,8 +47,8 @@ fn counted(n: Next) -> Session
 {
     let mut h = n.session;
     let sends = n.sends;
-    h.replies = h.replies + replies(n.takes);
-    h.sent = h.sent + frames(sends);
+    h.replies = h.replies + dump_record::replies(n.takes);
+    h.sent = h.sent + dump_record::frames(sends);
     h
 }
 
@@ -238,7 +111,7 @@ pub fn frame(
 ) -> Stepped
     ensures { λ r. ⌜ Leaves (dumpFrame settings session (now (frame .entry)) (now (buffer .entry)) (now (reply .entry))) (r .session) (r .answer) (now (buffer .exit)) (now (reply .exit)) ⌝ }
 {
-    let refusal = refusal(settings, session, buffer.len(), reply.len());
+    let refusal = dump_record::refusal(settings, session, buffer.len(), reply.len());
     if refusal != 0 {
         return refused(session, refusal);
     }
@@ -257,7 +130,7 @@ pub fn frame(
 pub fn timer(settings: Settings, session: Session, buffer: &[u8], reply: &mut [u8]) -> Stepped
     ensures { λ r. ⌜ Leaves (dumpTimer settings session (now (buffer .entry)) (now (reply .entry))) (r .session) (r .answer) (now (buffer .entry)) (now (reply .exit)) ⌝ }
 {
-    let refusal = refusal(settings, session, buffer.len(), reply.len());
+    let refusal = dump_record::refusal(settings, session, buffer.len(), reply.len());
     if refusal != 0 {
         return refused(session, refusal);
     }

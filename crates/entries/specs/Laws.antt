@@ -10,10 +10,13 @@ use borrow.Author.Tests.{eqb-true, eqb-false, ne-eqb}
 use lib.Dec.{eqb, leb, eqb·suc-zero}
 use lib.ListN.{length, getD, take, drop, length-append, take-append-drop}
 use lib.Seq.{length-take-le, take-at, drop-cons, drop-append-add}
-use Rattle.octets.specs.Cases.{by-cases}
-use Rattle.entries.specs.declared.Place.{Place}
-use Rattle.entries.specs.declared.Place.the-variants.{Kind, Size, Value, Time, Transfer, Outside, Excess}
-use Rattle.entries.specs.Entries.{listed, field, more, next, walk}
+use Rattle.octets.specs.TestLaws.{by-cases}
+use Rattle.entries_next.specs.declared.Place.{Place}
+use Rattle.entries_next.specs.declared.Place.the-variants.{Kind, Size, Value, Time, Transfer, Outside, Excess}
+use Rattle.host_time.specs.HostTime.{field}
+use Rattle.entries_next.specs.Next.{listed, more, next}
+use Rattle.entries.specs.Grammar.{Marked}
+use Rattle.entries.specs.Entries.{walk}
 
 -- ---- in parts
 pub walk-append : (p : Place) (a b : List ℕ) → walk p (a ++ b) ≡ walk (walk p a) b
@@ -116,14 +119,6 @@ pub value-some : (p : Place) (b n : ℕ) → next p b ≡ Value n → 1 ≤ n
 value-some p b n e = rw e at (led p b)
 
 -- ---- for a reader: what is accepted ends in the end mark and four bytes, and before them stand entries
--- A string that is so up to the end mark, with four bytes after the mark.
-pub record Marked (So : List ℕ → Type 0) (xs : List ℕ) : Type 0 where
-  pub front : List ℕ
-  pub transfer : List ℕ
-  pub whole : xs ≡ front ++ (0 ∷ transfer)
-  pub so : So front
-  pub four : length transfer ≡ 4
-
 -- it is walked from a place to the entries' end
 abbrev pub Walked : Place → List ℕ → Type 0
 Walked p xs = walk p xs ≡ Kind

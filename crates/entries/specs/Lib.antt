@@ -1,3 +1,4 @@
 pub mod Entries
-pub mod Laws
 pub mod Grammar
+pub mod Laws
+pub mod GrammarLaws

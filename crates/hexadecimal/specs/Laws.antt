@@ -8,7 +8,8 @@ use lib.ListN.{length, getD, drop, length-append, drop-of-length-le}
 use lib.Seq.{drop-cons}
 use lib.Dec.{ltb}
 use borrow.Author.Tests.{lt-ltb}
-use Rattle.octets.specs.Number.{Octets, octets-tail}
+use Rattle.octets.specs.Number.{Octets}
+use Rattle.octets.specs.NumberLaws.{octets-tail}
 use Rattle.octets.specs.Lay.{refused, written, Came}
 use Rattle.digits.specs.Digits.{digit, digits}
 use Rattle.digits.specs.Laws.{length-digits, nibble-digit}

@@ -1,4 +1,4 @@
 pub mod Image
-pub mod Parts
-pub mod Laws
 pub mod Walk
+pub mod PartsLaws
+pub mod Laws

@@ -4,9 +4,10 @@ use mathlib.Core.Bool.{cond as pick}
 use mathlib.Core.List.{List}
 use lib.ListN.{length}
 use lib.Dec.{leb, ltb}
-use Rattle.image.specs.Image.{addresses, entryAt, entries, entriesRefusal, ending, nowhere, parts, cut, tallied}
-use Rattle.image.specs.declared.Trailer.{Trailer}
-use Rattle.image.specs.declared.Region.{Region}
+use Rattle.directory.specs.declared.Trailer.{Trailer}
+use Rattle.directory.specs.declared.Region.{Region}
+use Rattle.directory.specs.Directory.{addresses, entryAt, entries, entriesRefusal, ending, nowhere}
+use Rattle.image.specs.Image.{parts, cut, tallied}
 use Rattle.image.specs.declared.Reach.{Reach}
 use Rattle.image.specs.declared.Tally.{Tally}
 

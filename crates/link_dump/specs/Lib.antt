@@ -1,6 +1,7 @@
 pub mod Model
-pub mod Filled
-pub mod Host
-pub mod Alone
-pub mod Invariant
+pub mod FilledLaws
+pub mod HostLaws
+pub mod AloneLaws
+pub mod InvariantLaws
+pub mod DumpedLaws
 pub mod Theorem

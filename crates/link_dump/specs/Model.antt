@@ -1,9 +1,10 @@
 -- A dump over the link: its ends, its fresh world, and what is claimed of a reached world (paper 01, 'The link, for demand 3').
-use Prim.Native.Nat.{ℕ, _+_, _*_, _≤_}
+use Prim.Native.Nat.{ℕ, _+_, _*_, _≤_, _<_}
 use mathlib.Core.Path.{_≡_}
 use mathlib.Core.Bool.{true}
 use mathlib.Core.List.{List, _++_}
-use lib.ListN.{length, drop}
+use mathlib.Core.Option.{some}
+use lib.ListN.{length, drop, getElem?}
 use Rattle.memory.specs.Memory.{bytesFrom}
 use Rattle.step.specs.Step.{Outcome}
 use Rattle.machine_next.specs.declared.Settings.{Settings as MachineSettings}
@@ -12,8 +13,7 @@ use Rattle.dump_next.specs.declared.Session.{Session}
 use Rattle.dump_next.specs.declared.Settings.{Settings as DumpSettings}
 use Rattle.dump_next.specs.Next.{fresh}
 use Rattle.dump.specs.Dump as dump
-use Rattle.link.specs.Link.{Turn, Ends, World}
-use Rattle.link.specs.Call.{turned}
+use Rattle.link.specs.Link.{Turn, turned, Ends, World, Event, run}
 use Rattle.link.specs.MachineEnd.{End, endsWith, freshWith}
 
 -- The host end: its record and its dump buffer.
@@ -37,9 +37,19 @@ dumpEnds s ms =
 abbrev pub freshWorld : MachineSettings → List ℕ → List ℕ → World Host End
 freshWorld ms memory buffer = freshWith ms (hostEnd fresh buffer) offering memory
 
+-- the world after a list of events, from fresh ends with this memory and this dump buffer; `Event ⊥`: the link's own events and no others
+abbrev pub after : DumpSettings → MachineSettings → List ℕ → List ℕ → List (Event ⊥) → World Host End
+after s ms memory buffer es = run (dumpEnds s ms) (freshWorld ms memory buffer) es
+
 -- a buffer whose first n bytes are memory from an address on, 0 beyond memory's end, and whose rest is as it was
 abbrev pub filledWith : List ℕ → ℕ → ℕ → List ℕ → List ℕ
 filledWith memory a n buffer = bytesFrom memory a n ++ drop n buffer
+
+-- Byte k of a buffer is memory's at address a + k: the byte that stands there, or 0 if that is beyond memory's end.
+-- `getElem? xs k` is byte k of xs, counted from 0, and none beyond the end of xs.
+pub record Copied (memory : List ℕ) (a : ℕ) (buffer : List ℕ) (k : ℕ) : Type 0 where
+  pub inside : a + k < length memory → getElem? buffer k ≡ getElem? memory (a + k)
+  pub beyond : length memory ≤ a + k → getElem? buffer k ≡ some 0
 
 -- What is claimed of a world: `memory` and `buffer` are the old ones.
 pub record Dumped (s : DumpSettings) (memory buffer : List ℕ) (w : World Host End) : Type 0 where

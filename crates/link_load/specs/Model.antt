@@ -5,7 +5,8 @@ use mathlib.Core.Bool.{Bool, true, false}
 use mathlib.Core.List.{List}
 use lib.ListN.{length}
 use Rattle.memory.specs.Memory.{fits, laid}
-use Rattle.image.specs.Image.{trailer, regions, many, segmentOf}
+use Rattle.directory.specs.Directory.{trailer, regions}
+use Rattle.image.specs.Image.{many, segmentOf}
 use Rattle.step.specs.Step.{Outcome}
 use Rattle.machine_next.specs.declared.Settings.{Settings as MachineSettings}
 use Rattle.machine_next.specs.Next as machine
@@ -13,8 +14,7 @@ use Rattle.load_next.specs.declared.Session.{Session}
 use Rattle.load_next.specs.declared.Settings.{Settings as LoadSettings}
 use Rattle.load_next.specs.Next.{fresh}
 use Rattle.load.specs.Load.{loadFrame, loadTimer}
-use Rattle.link.specs.Link.{Turn, Ends, World}
-use Rattle.link.specs.Call.{turned}
+use Rattle.link.specs.Link.{Turn, turned, Ends, World, Event, run}
 use Rattle.link.specs.MachineEnd.{End, endsWith, freshWith}
 
 -- the host's end is its record alone
@@ -32,6 +32,10 @@ loadEnds s ms file =
 -- fresh ends: a waiting host, and a Requesting machine whose first frame, the one that a timer gives, is the only one queued
 abbrev pub freshWorld : MachineSettings → List ℕ → World Session End
 freshWorld ms memory = freshWith ms fresh machine.requesting memory
+
+-- the world after a list of events, from fresh ends with this image and this memory; `Event ⊥`: the link's own events and no others
+abbrev pub after : LoadSettings → MachineSettings → List ℕ → List ℕ → List (Event ⊥) → World Session End
+after s ms file memory es = run (loadEnds s ms file) (freshWorld ms memory) es
 
 module _ (file : List ℕ) (S : ℕ) (memory : List ℕ) where
   -- segment i fits the memory

@@ -1,24 +1,25 @@
 -- Printing an input character by character prints its listing; and no line of a frame is too long for the space it is made in.
-use Prim.Native.Nat.{ℕ, _+_, _<_, _≤_, max}
+use Prim.Native.Nat.{ℕ, _+_, _<_, _≤_}
 use mathlib.Core.Path.{_≡_, refl, sym, ap, ap₂, _∙_}
 use mathlib.Core.Bool.{Bool, true, false, cond as pick}
 use mathlib.Core.List.{List, [], _∷_, _++_, append-nil}
+use mathlib.Core.Option.{Option, none, some}
 use native.Mathlib.Omega.{arith}
 use lib.ListN.{length, take, length-set, length-take}
 use lib.Seq.{take-all, getD-take}
 use lib.Dec.{eqb, ltb}
 use borrow.Author.Tests.{ne-eqb, lt-ltb, le-ltb, ltb-true, ltb-false}
 use Rattle.bytes.specs.Bytes.{indexOf}
-use Rattle.octets.specs.Cases.{by-cases}
+use Rattle.octets.specs.TestLaws.{by-cases}
 use Rattle.octets.specs.declared.Written.{Written}
 use Rattle.octets.specs.Lay.{Came}
 use Rattle.message.specs.declared.Fields.{Fields}
-use Rattle.message.specs.Message.{Row, rows, least, leastIn, exact}
-use Rattle.message.specs.Read.{fields, refusedFields, byte, longest}
+use Rattle.message.specs.Read.{byte, refusedFields, shortest, longest, Row, rows, find, frame, fields}
+use Rattle.message.specs.Laws.{Each, by-find}
 use Rattle.text.specs.Text.{chars, placed}
 use Rattle.text.specs.Laws.{by-test}
 use Rattle.pattern.specs.Pattern.{filling, sentenced}
-use Rattle.pattern.specs.Most.{weigh, every, filling-most}
+use Rattle.pattern.specs.MostLaws.{weigh, every, filling-most}
 use Rattle.hexadecimal.specs.declared.Line.{Line}
 use Rattle.hexadecimal.specs.Hexadecimal.{Decoded, notHexadecimal, spelled, isDigit, pairs, hexadecimal}
 use Rattle.hexadecimal.specs.Line.{Held, stepped, run, opened, ended}
@@ -55,37 +56,27 @@ module _ (s out : List ℕ) {f : Fields} (e : f ≡ fields s) {r : Written} {out
   read-line h v n came = rw (← e, h, ← n) came
 
 -- A frame above 1,500 bytes is refused by its first byte and its length: 1,501 bytes decide.
-tallest : List Row → ℕ
-tallest [] = 0
-tallest (row ∷ rest) = max (row .length) (tallest rest)
-
-leastIn-most : (rs : List Row) (code : ℕ) → tallest rs ≤ 1500 → leastIn rs code ≤ 1500
-unfolding leastIn tallest
-leastIn-most [] code h = omega arith
-leastIn-most (row ∷ rest) code h = by-cases (λ (n : ℕ). n ≤ 1500) (eqb code (row .code)) (λ e. omega arith) (λ e. leastIn-most rest code (omega arith))
-
-least-most : (code : ℕ) → least code ≤ 1500
-unfolding least tallest
-least-most code = leastIn-most rows code (omega arith)
+beyond : Option Row → ℕ
+beyond none = 3
+beyond (some row) = 2
 
 -- the numbers of such a frame
-fields-long : (s : List ℕ) → 1500 < length s → fields s ≡ refusedFields (pick (ltb 0 (least (byte s 0))) 2 3)
-unfolding fields
+fields-long : (s : List ℕ) → 1500 < length s → fields s ≡ refusedFields (beyond (find rows (byte s 0)))
+unfolding fields Each beyond
 fields-long s h =
-    let l = least-most (byte s 0) in
-    let m : longest (byte s 0) ≤ 1500 = by-cases (λ (n : ℕ). n ≤ 1500) (exact (byte s 0)) (λ e. l) (λ e. omega arith) in
-    by-test (ltb 0 (least (byte s 0))) _
-    (λ e. rw (ne-eqb (length s) 0 (omega arith), e, le-ltb (length s) (least (byte s 0)) (omega arith), lt-ltb (longest (byte s 0)) (length s) (omega arith)))
-    (λ e. rw (ne-eqb (length s) 0 (omega arith), e))
+    rw (ne-eqb (length s) 0 (omega arith)) (by-find {R = λ (row : Row). (shortest (row .long) ≤ 1500) × (longest (row .long) ≤ 1500)}
+    (λ (o : Option Row). frame s o ≡ refusedFields (beyond o)) rows (byte s 0) (omega arith) refl
+    (λ row _ l. rw (le-ltb (length s) (shortest (row .long)) (omega arith), lt-ltb (longest (row .long)) (length s) (omega arith))))
 
 -- the text of a refused frame has nothing of its bytes
 text-refused : (s t : List ℕ) (f : Fields) → (f .refusal ≡ 0 → ⊥) → text s f ≡ text t f
 unfolding text
 text-refused s t f h = rw (ne-eqb (f .refusal) 0 h)
 
-refusal-some : (b : Bool) → refusedFields (pick b 2 3) .refusal ≡ 0 → ⊥
-refusal-some true = λ e. omega arith
-refusal-some false = λ e. omega arith
+refusal-some : (o : Option Row) → refusedFields (beyond o) .refusal ≡ 0 → ⊥
+unfolding beyond
+refusal-some none = λ e. omega arith
+refusal-some (some row) = λ e. omega arith
 
 text-first : (n : ℕ) (s : List ℕ) → 1500 < n → text (take n s) (fields (take n s)) ≡ text s (fields s)
 text-first n s h =
@@ -93,10 +84,10 @@ text-first n s h =
     (λ l.
     let long = ltb-true n (length s) l in
     let size : length (take n s) ≡ n = simp length-take (omega arith) in
-    let test = ltb 0 (least (byte s 0)) in
-    let f : fields (take n s) ≡ refusedFields (pick test 2 3) =
-    fields-long (take n s) (omega arith) ∙ ap (λ (code : ℕ). refusedFields (pick (ltb 0 (least code)) 2 3)) (getD-take n s 0 0 (omega arith)) in
-    rw (f, fields-long s (omega arith)) (text-refused (take n s) s (refusedFields (pick test 2 3)) (refusal-some test)))
+    let row = find rows (byte s 0) in
+    let f : fields (take n s) ≡ refusedFields (beyond row) =
+    fields-long (take n s) (omega arith) ∙ ap (λ (code : ℕ). refusedFields (beyond (find rows code))) (getD-take n s 0 0 (omega arith)) in
+    rw (f, fields-long s (omega arith)) (text-refused (take n s) s (refusedFields (beyond row)) (refusal-some row)))
     (λ l. ap (λ (t : List ℕ). text t (fields t)) (take-all n s (ltb-false n (length s) l)))
 
 printed-capped : (n : ℕ) (d : Decoded) → 1500 < n → printed (capped n d) ≡ printed d

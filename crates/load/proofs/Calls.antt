@@ -6,7 +6,7 @@ use mathlib.Core.List.{List}
 use native.Mathlib.Omega.{arith}
 use Rattle.octets.specs.declared.Written.{Written}
 use Rattle.message.specs.Message.{Message}
-use Rattle.image.specs.Image.{addresses}
+use Rattle.directory.specs.Directory.{addresses}
 use Rattle.image.specs.Laws.{file-segment}
 use Rattle.step.specs.Step.{Sending, nothing, sends, Act, acts, gives, Leaves}
 use Rattle.load_next.specs.declared.Settings.{Settings}

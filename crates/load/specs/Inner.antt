@@ -3,8 +3,9 @@ use Prim.Native.Nat.{ℕ, _+_, _≤_, _<_}
 use mathlib.Core.Path.{_≡_}
 use mathlib.Core.List.{List}
 use lib.ListN.{length}
-use Rattle.image.specs.declared.Region.{Region}
-use Rattle.image.specs.Image.{bytes, Piece, trailer, regions, segment, widest}
+use Rattle.directory.specs.declared.Region.{Region}
+use Rattle.directory.specs.Directory.{bytes, trailer, regions}
+use Rattle.image.specs.Image.{Piece, segment, widest}
 use Rattle.step.specs.Step.{Act, acts}
 use Rattle.load_next.specs.declared.Settings.{Settings}
 use Rattle.load_next.specs.declared.Session.{Session}

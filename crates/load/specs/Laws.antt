@@ -8,12 +8,13 @@ use native.Mathlib.Nat.{mul-le-mul}
 use lib.ListN.{length, length-append}
 use lib.Dec.{eqb}
 use borrow.Author.Tests.{leb-true, eqb-false, not-true, le-leb}
-use Rattle.octets.specs.Cases.{by-cases, both}
-use Rattle.octets.specs.Number.{length-low}
+use Rattle.octets.specs.TestLaws.{by-cases, both}
+use Rattle.octets.specs.NumberLaws.{length-low}
 use Rattle.message.specs.Message.{Message}
 use Rattle.message.specs.Write.{layout, listed}
-use Rattle.image.specs.Image.{Piece, widest, addresses, demand, cutRefusal}
-use Rattle.image.specs.Image.{refusal as imageRefusal}
+use Rattle.directory.specs.Directory.{addresses, demand}
+use Rattle.image.specs.Image.{Piece, widest, cutRefusal}
+use Rattle.directory.specs.Directory.{refusal as imageRefusal}
 use Rattle.image.specs.Laws.{many-range}
 use Rattle.step.specs.Laws.{met, none}
 use Rattle.load_next.specs.declared.Settings.{Settings}

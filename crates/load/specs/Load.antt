@@ -6,8 +6,9 @@ use mathlib.Core.List.{List, [], _∷_}
 use lib.ListN.{length}
 use lib.Dec.{eqb, leb}
 use Rattle.message.specs.Message.{Message, memoryLoadTransfer, memoryLoad}
-use Rattle.image.specs.Image.{trailer, regions, many, Piece, segmentOf, widest}
-use Rattle.image.specs.Image.{refusal as imageRefusal}
+use Rattle.directory.specs.Directory.{trailer, regions}
+use Rattle.image.specs.Image.{many, Piece, segmentOf, widest}
+use Rattle.directory.specs.Directory.{refusal as imageRefusal}
 use Rattle.step.specs.Step.{Sending, nothing, sends, Act, Outcome, unless, first, acts, call, frameCall}
 use Rattle.load_next.specs.declared.Settings.{Settings}
 use Rattle.load_next.specs.declared.Session.{Session}

@@ -4,13 +4,13 @@ ghost use mathlib.Core.Bool.{true};
 ghost use Prim.Native.Nat.{_*_, _≤_};
 ghost use Rattle.octets.specs.Lay.{Came, refused};
 ghost use Rattle.message.specs.Write.{sent};
-ghost use Rattle.image.specs.Image.{addresses};
+ghost use Rattle.directory.specs.Directory.{addresses};
 ghost use Rattle.step.specs.Step.{gives, Leaves};
 ghost use Rattle.load_next.specs.Next.{fresh};
-ghost use Rattle.load_next.specs.Laws.{ahead};
+ghost use Rattle.load_next.specs.Inner.{ahead};
 ghost use Rattle.load.specs.Load.{blank, settled, sound, consistent, numbered, counted, loadFrame, loadTimer};
 ghost use Rattle.load.specs.Inner.{piece, acting, Ruled, Sendable};
-use image::Region;
+use directory::Region;
 use load_next::Next;
 use load_next::Session;
 use load_next::Settings;
@@ -157,7 +157,7 @@ fn ahead(session: Session) -> u64
     if session.waiting == 1 {
         return 0;
     }
-    octets::lesser(session.position, image::ADDRESSES) + 1
+    octets::lesser(session.position, directory::ADDRESSES) + 1
 }
 
 // The record, with the frame counted that goes out.

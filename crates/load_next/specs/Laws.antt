@@ -1,19 +1,16 @@
 -- Laws of what the host does next: the count stays, and which frame may go out is known beforehand.
 use Prim.Native.Nat.{ℕ, _+_, _%_, _<_}
 use mathlib.Core.Path.{_≡_, refl}
-use mathlib.Core.Bool.{true, false, _&&_, cond as pick}
+use mathlib.Core.Bool.{true, false, _&&_}
 use native.Mathlib.Omega.{arith}
 use lib.Dec.{eqb, ltb}
 use borrow.Author.Tests.{eqb-true, ltb-true}
-use Rattle.octets.specs.Cases.{by-cases, both}
+use Rattle.octets.specs.TestLaws.{by-cases, both}
 use Rattle.message.specs.declared.Fields.{Fields}
 use Rattle.load_next.specs.declared.Session.{Session}
 use Rattle.load_next.specs.declared.Next.{Next}
+use Rattle.load_next.specs.Inner.{ahead}
 use Rattle.load_next.specs.Next.{ignores, more, onRequest, onAnswer, react, onTimer}
-
--- the frame that may go out on a frame: the first, or the one after the frame on its way
-abbrev pub ahead : Session → ℕ
-ahead h = pick (eqb (h .waiting) 1) 0 (h .position + 1)
 
 -- the count stays, and what goes out is frame i, one of N
 pub record Bound (N i : ℕ) (h : Session) (next : Next) : Type 0 where

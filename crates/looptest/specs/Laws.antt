@@ -1,20 +1,22 @@
--- Laws of a loop test: what an accepted call has, what is sent, and the comparison of two strings byte by byte.
-use Prim.Native.Nat.{ℕ, suc, _+_, _≤_, _<_}
-use mathlib.Core.Path.{_≡_, refl, ap}
-use mathlib.Core.Bool.{true, false, _&&_, and-false}
+-- Laws of a loop test's calls: what an accepted call has, and the ways through a timer.
+use Prim.Native.Nat.{ℕ, _+_, _≤_}
+use mathlib.Core.Path.{_≡_, refl}
+use mathlib.Core.Bool.{true, false, _&&_}
 use mathlib.Core.List.{List, [], _∷_}
 use native.Mathlib.Omega.{arith}
-use native.Mathlib.Numerals.{add-one}
-use lib.ListN.{length, getD, drop, drop-of-length-le}
-use lib.Seq.{drop-cons}
-use lib.Dec.{eqb, leb}
+use lib.ListN.{length}
+use lib.Dec.{leb}
 use borrow.Author.Tests.{leb-true}
-use Rattle.octets.specs.Cases.{both}
-use Rattle.step.specs.Step.{unless}
-use Rattle.step.specs.Laws.{met, none}
-use Rattle.looptest.specs.declared.Settings.{Settings}
-use Rattle.looptest.specs.declared.Session.{Session}
-use Rattle.looptest.specs.Loop.{same, settled, sound, refusal}
+use Rattle.octets.specs.declared.Written.{Written}
+use Rattle.octets.specs.TestLaws.{both}
+use Rattle.octets.specs.Lay.{written}
+use Rattle.step.specs.Step.{unless, gives, Leaves}
+use Rattle.step.specs.Laws.{met, none, call-accepted}
+use Rattle.looptest_next.specs.declared.Settings.{Settings}
+use Rattle.looptest_next.specs.declared.Session.{Session}
+use Rattle.looptest_next.specs.declared.Next.{Next}
+use Rattle.looptest_next.specs.Next.{onTimer}
+use Rattle.looptest.specs.Loop.{settled, sound, refusal, counted, goesOut, does, loopTimer}
 
 -- What an accepted call has, so that its frame fits and its count does not overflow.
 pub record Accepted (h : Session) (size free : ℕ) : Type 0 where
@@ -37,22 +39,15 @@ accepted s h size room e =
       room = leb-true 1500 room (met (leb 1500 room) 9 (omega arith) (third .0));
     }
 
--- ---- two strings
--- of other lengths
-pub same-apart : (xs ys : List ℕ) → (length xs ≡ length ys → ⊥) → same xs ys ≡ false
-unfolding same
-same-apart [] [] h = absurd (h refl)
-same-apart [] (y ∷ ys) h = refl
-same-apart (x ∷ xs) [] h = refl
-same-apart (x ∷ xs) (y ∷ ys) h = rw (same-apart xs ys (λ e. h (ap suc e))) (and-false (eqb x y))
+-- a timer that is not refused: nothing goes out, or the test's frame does
+module _ (s : Settings) (h : Session) (bytes reply : List ℕ) (n : Next) (z : refusal s h (length bytes) (length reply) ≡ 0) (e : n ≡ onTimer s h) where
+  timed : {end : Session} {answer : Written} {reply′ : List ℕ} → Leaves (gives (does s n bytes) reply) end answer tt reply′
+      → Leaves (loopTimer s h bytes reply) end answer tt reply′
+  timed l = call-accepted _ h tt reply (does s (onTimer s h) bytes) z (rw e at l)
 
--- from a place on: the bytes there, then the rest
-pub same-on : (xs ys : List ℕ) (i : ℕ) → i < length xs → i < length ys
-    → same (drop i xs) (drop i ys) ≡ (eqb (getD xs i 0) (getD ys i 0) && same (drop (i + 1) xs) (drop (i + 1) ys))
-unfolding same
-same-on xs ys i h l = rw (add-one, drop-cons xs i 0 h, drop-cons ys i 0 l)
+  pub timer-waits : n .sends ≡ false → Leaves (loopTimer s h bytes reply) (n .session) (written 0) tt reply
+  timer-waits f = timed (rw f (refl, refl, refl, refl))
 
--- from the end of both on
-pub same-end : (xs ys : List ℕ) (i : ℕ) → length xs ≤ i → length ys ≤ i → same (drop i xs) (drop i ys) ≡ true
-unfolding same
-same-end xs ys i h l = rw (drop-of-length-le xs {i = i} h, drop-of-length-le ys {i = i} l)
+  pub timer-again : {end : Session} {answer : Written} {reply′ : List ℕ} → n .sends ≡ true
+      → Leaves (gives (goesOut s (counted (n .session)) bytes) reply) end answer tt reply′ → Leaves (loopTimer s h bytes reply) end answer tt reply′
+  timer-again t l = timed (rw t l)

@@ -1,27 +1,13 @@
-// The host's loop test (paper 01, 'Host end').
+// The calls of the host's loop test (paper 01, 'Host end').
 ghost use mathlib.Core.Path.{_≡_};
 ghost use Prim.Native.Nat.{_≤_, _<_};
 ghost use lib.ListN.{length};
 ghost use Rattle.octets.specs.Lay.{written, refused};
 ghost use Rattle.step.specs.Step.{gives, Leaves};
-ghost use Rattle.looptest.specs.Loop.{begun, repeated, ended, same, refusal, returned, react, goesOut, loopStart, loopFrame, loopTimer};
-use message::Fields;
+ghost use Rattle.looptest.specs.Loop.{begun, counted, refusal, goesOut, loopStart, loopFrame, loopTimer};
+use looptest_next::Session;
+use looptest_next::Settings;
 use octets::Written;
-
-// Its settings: R, the repeats allowed, and the receipt that its frame carries.
-#[repr(C)]
-pub struct Settings {
-    pub repeats: u32,
-    pub receipt: u16,
-}
-
-// Its record: the frames sent, the repeats, the verdict: 0 open, 1 code 26 came, 2 code 24 came from a plug, 3 given up.
-#[repr(C)]
-pub struct Session {
-    pub sent: u64,
-    pub repeats: u32,
-    pub verdict: u8,
-}
 
 // What a step gives: the next record, and the length of the frame to send, 0 for none, or a refusal.
 #[repr(C)]
@@ -41,24 +27,14 @@ fn begun() -> Session
     }
 }
 
-// Another repeat is sent.
-fn repeated(h: Session) -> Session
-    requires { ⌜ (h .sent < 4294967295) × (h .repeats < 4294967295) ⌝ }
-    ensures { λ r. ⌜ r ≡ repeated h ⌝ }
+// Another frame is sent.
+fn counted(h: Session) -> Session
+    requires { ⌜ h .sent < 4294967295 ⌝ }
+    ensures { λ r. ⌜ r ≡ counted h ⌝ }
 {
     let mut next = h;
     next.sent = h.sent + 1;
-    next.repeats = h.repeats + 1;
     next
-}
-
-// There is a verdict.
-fn ended(h: Session, verdict: u8) -> Session
-    ensures { λ r. ⌜ r ≡ ended h verdict ⌝ }
-{
-    let mut last = h;
-    last.verdict = verdict;
-    last
 }
 
 // A call's refusal: 10 for R, the data or the record, then 9; 0 is none.
@@ -119,58 +95,6 @@ fn goes_out(s: Settings, h: Session, bytes: &[u8], reply: &mut [u8]) -> Stepped
     Stepped { session: h, answer }
 }
 
-// Two strings are equal.
-fn same(a: &[u8], b: &[u8]) -> bool
-    ensures { λ r. ⌜ r ≡ same (now (a .entry)) (now (b .entry)) ⌝ }
-{
-    if a.len() != b.len() {
-        return false;
-    }
-    let mut i = 0;
-    while i < a.len() {
-        if a[i] != b[i] {
-            return false;
-        }
-        i += 1;
-    }
-    true
-}
-
-// A frame with the test's receipt and data ends it with a verdict.
-fn returned(
-    s: Settings,
-    h: Session,
-    bytes: &[u8],
-    verdict: u8,
-    receipt: u16,
-    back: &[u8],
-) -> Session
-    ensures { λ r. ⌜ r ≡ returned s h (now (bytes .entry)) verdict receipt (now (back .entry)) ⌝ }
-{
-    if receipt != s.receipt {
-        return h;
-    }
-    if !same(back, bytes) {
-        return h;
-    }
-    ended(h, verdict)
-}
-
-// Code 26 from the machine, 24 from a plug; another readable frame leaves it waiting.
-fn react(s: Settings, h: Session, bytes: &[u8], f: Fields, back: &[u8]) -> Session
-    ensures { λ r. ⌜ r ≡ react s h (now (bytes .entry)) f (now (back .entry)) ⌝ }
-{
-    if h.verdict != 0 {
-        return h;
-    }
-    let code = f.code;
-    match code {
-        24 => returned(s, h, bytes, 2, f.receipt, back),
-        26 => returned(s, h, bytes, 1, f.receipt, back),
-        _ => h,
-    }
-}
-
 // The start: the record and the first frame.
 pub fn start(settings: Settings, bytes: &[u8], reply: &mut [u8]) -> Stepped
     ensures { λ r. ⌜ Leaves (loopStart settings (now (bytes .entry)) (now (reply .entry))) (r .session) (r .answer) tt (now (reply .exit)) ⌝ }
@@ -203,10 +127,10 @@ pub fn frame(
     }
     let at = f.data_at;
     let end = at + f.data_length;
-    sends_nothing(react(settings, session, bytes, f, &frame[at..end]))
+    sends_nothing(looptest_next::react(settings, session, bytes, f, &frame[at..end]))
 }
 
-// A step on a timer: the frame again if fewer than R repeats are used, otherwise given up.
+// A step on a timer.
 pub fn timer(settings: Settings, session: Session, bytes: &[u8], reply: &mut [u8]) -> Stepped
     ensures { λ r. ⌜ Leaves (loopTimer settings session (now (bytes .entry)) (now (reply .entry))) (r .session) (r .answer) tt (now (reply .exit)) ⌝ }
 {
@@ -214,11 +138,10 @@ pub fn timer(settings: Settings, session: Session, bytes: &[u8], reply: &mut [u8
     if refusal != 0 {
         return refused(session, refusal);
     }
-    if session.verdict != 0 {
-        return sends_nothing(session);
+    let next = looptest_next::on_timer(settings, session);
+    let sends = next.sends;
+    if sends {
+        return goes_out(settings, counted(next.session), bytes, reply);
     }
-    if settings.repeats <= session.repeats {
-        return sends_nothing(ended(session, 3));
-    }
-    goes_out(settings, repeated(session), bytes, reply)
+    sends_nothing(next.session)
 }

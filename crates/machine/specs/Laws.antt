@@ -8,14 +8,15 @@ use lib.ListN.{length, length-append, length-take, length-drop}
 use lib.Dec.{eqb}
 use borrow.Author.Tests.{eqb-true}
 use Rattle.octets.specs.declared.Written.{Written}
-use Rattle.octets.specs.Number.{Octets, length-low}
-use Rattle.octets.specs.Cases.{by-cases}
+use Rattle.octets.specs.Number.{Octets}
+use Rattle.octets.specs.NumberLaws.{length-low}
+use Rattle.octets.specs.TestLaws.{by-cases}
 use Rattle.octets.specs.Lay.{Came}
 use Rattle.memory.specs.Memory.{fits, deposited}
 use Rattle.memory.specs.Laws.{length-bytesFrom}
 use Rattle.message.specs.declared.Fields.{Fields}
 use Rattle.message.specs.Message.{Message, loopData, loopedData}
-use Rattle.message.specs.Read.{message, fields, part, read}
+use Rattle.message.specs.Read.{message, find, fields, part, read}
 use Rattle.message.specs.Write.{layout, listed, write}
 use Rattle.message.specs.Laws.{fields-inside, fields-short, written-read}
 use Rattle.step.specs.Step.{Sending, nothing, sends, Act, acts, gives, Leaves}
@@ -24,16 +25,12 @@ use Rattle.machine_next.specs.declared.Settings.{Settings}
 use Rattle.machine_next.specs.declared.Machine.{Machine}
 use Rattle.machine_next.specs.declared.Next.{Next}
 use Rattle.machine_next.specs.Next.{is, heed, byNumber, onLoad, onDump, react, sending, does}
+use Rattle.machine.specs.Inner.{Short}
 
 -- ---- what is sent
--- it is listed, and has at most 1,500 bytes
-abbrev pub Short : Sending → Type 0
-Short nothing = Unit {0}
-Short (sends what) = (listed what ≡ true) × (length (layout what) ≤ 1500)
-
 -- the data of an accepted loop frame leaves room for the code and the receipt
 loop-part : (s : List ℕ) → Octets s → fields s .refusal ≡ 0 → fields s .code ≡ 24 → length (layout (loopedData (fields s .receipt) (part s (fields s)))) ≤ 1500
-unfolding read layout
+unfolding read find layout
 loop-part s o z e =
     let what = loopData (fields s .receipt) (part s (fields s)) in
     let reads : read s ≡ message what = rw (z, e) in

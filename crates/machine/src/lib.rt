@@ -11,7 +11,7 @@ ghost use Rattle.message.specs.Write.{write};
 ghost use Rattle.step.specs.Step.{acts, gives, Leaves};
 ghost use Rattle.machine_next.specs.Next.{sending};
 ghost use Rattle.machine.specs.Machine.{machineFrame};
-ghost use Rattle.machine.specs.Laws.{Short};
+ghost use Rattle.machine.specs.Inner.{Short};
 pub use machine_next::Machine;
 use machine_next::Sends;
 pub use machine_next::Settings;

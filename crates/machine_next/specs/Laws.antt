@@ -16,15 +16,8 @@ use Rattle.machine_next.specs.declared.Settings.{Settings}
 use Rattle.machine_next.specs.declared.Machine.{Machine}
 use Rattle.machine_next.specs.declared.Sends.the-variants.{Nothing, Load}
 use Rattle.machine_next.specs.declared.Next.{Next}
-use Rattle.machine_next.specs.Next.{loading, after, heed, byNumber, takenAs, onLoad, refusal, next, does}
-
--- a frame that is taken, and the number rule
-abbrev pub taken : ℕ → Bool → Machine → Next
-taken number fit fitted = pick fit (next fitted true (Load (after number) 0)) (next (loading (after number) 1) false (Load (after number) 1))
-
-abbrev pub heeded : Machine → ℕ → Next → Next
-heeded m number n =
-    pick (eqb (heed m number) 1) n (pick (eqb (heed m number) 2) (next m false (Load (m .expected) (m .error))) (next m false Nothing))
+use Rattle.machine_next.specs.Next.{heed, byNumber, takenAs, onLoad, refusal, next, does}
+use Rattle.machine_next.specs.Inner.{taken, heeded}
 
 module _ (f : Fields) (frame memory : List ℕ) where
   -- a choice of decisions does what the chosen one does

@@ -6,7 +6,7 @@ use lib.ListN.{length}
 use lib.Dec.{eqb, leb}
 use Rattle.memory.specs.Memory.{fits, laid, deposited, bytesFrom}
 use Rattle.message.specs.declared.Fields.{Fields}
-use Rattle.message.specs.Message.{requestProgram, requestLoad, requestDumpService, dumpData, loopedData}
+use Rattle.message.specs.Message.{Message, requestProgram, requestLoad, requestDumpService, dumpData, loopedData}
 use Rattle.message.specs.Read.{part}
 use Rattle.step.specs.Step.{Sending, nothing, sends, Act, acts, ignores, unless, first}
 use Rattle.machine_next.specs.declared.Settings.{Settings}
@@ -94,12 +94,19 @@ react s m f frame memory =
     (ignores m memory)))))
 
 -- ---- a timer
+-- what a Requesting and an Offering machine send, first of all and at each timer
+abbrev pub asksLoad : Settings → Message
+asksLoad s = requestProgram (s .device) 1 2 255 [] (s .processor) []
+
+abbrev pub asksDump : Settings → ℕ → Message
+asksDump s size = requestDumpService (s .device) 1 size 0 []
+
 -- Requesting asks for a program, Offering for a dump; other timers do nothing
 abbrev pub onTimer : Settings → Machine → List ℕ → Act Machine (List ℕ)
 onTimer s m memory =
     acts m memory
-    (pick (is 2 m) (sends (requestProgram (s .device) 1 2 255 [] (s .processor) []))
-    (pick (is 1 m) (sends (requestDumpService (s .device) 1 (length memory) 0 []))
+    (pick (is 2 m) (sends (asksLoad s))
+    (pick (is 1 m) (sends (asksDump s (length memory)))
     nothing))
 
 -- ---- a call's refusal, with a memory and a reply buffer of these lengths; 0 is none

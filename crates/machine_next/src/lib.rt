@@ -8,7 +8,7 @@ ghost use Rattle.octets.specs.Lay.{refused};
 ghost use Rattle.message.specs.Read.{part};
 ghost use Rattle.machine_next.specs.declared.Sends.the-variants.{Nothing, Data, Looped};
 ghost use Rattle.machine_next.specs.Next.{inState, idle, is, after, heed, react, refusal, next, does};
-ghost use Rattle.machine_next.specs.Laws.{taken, heeded};
+ghost use Rattle.machine_next.specs.Inner.{taken, heeded};
 use message::Fields;
 use octets::Written;
 

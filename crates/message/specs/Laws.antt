@@ -5,50 +5,58 @@ use Prim.Native.Nat.{ℕ, suc, _+_, _-_, _^_, _<_, _≤_, min}
 use mathlib.Core.Path.{_≡_, refl, ap, sym, _∙_, subst}
 use mathlib.Core.Bool.{Bool, true, false, _&&_, cond}
 use mathlib.Core.List.{List, [], _∷_, _++_, append-assoc, append-nil}
+use mathlib.Core.Option.{Option, none, some}
 use native.Mathlib.Omega.{arith}
 use native.Mathlib.Nat.{le-antisymm, le-trans}
 use native.Mathlib.Numerals.{add-one}
 use lib.ListN.{length, getD, take, drop, length-append, length-take, length-drop, take-append-drop, drop-of-length-le}
 use lib.Seq.{drop-cons, drop-drop, drop-at, take-at, getD-at, take-all, take-length, getD-take, getD-drop}
 use lib.Dec.{eqb, leb, ltb}
-use borrow.Author.Tests.{eq-eqb, ne-eqb, lt-ltb, le-ltb, eqb-true, eqb-false, ltb-false, leb-true}
-use Rattle.octets.specs.Number.{number, low, Octets, octets-part, length-low, part-bound, number-low, low-number}
+use borrow.Author.Tests.{eq-eqb, ne-eqb, lt-ltb, le-ltb, eqb-true, eqb-false, ltb-false, ltb-true}
+use Rattle.octets.specs.Number.{number, low, Octets}
+use Rattle.octets.specs.NumberLaws.{octets-part, length-low, part-bound, number-low, low-number}
 use Rattle.octets.specs.declared.Written.{Written}
-use Rattle.octets.specs.Cases.{by-cases, both}
+use Rattle.octets.specs.TestLaws.{by-cases, both}
 use Rattle.octets.specs.Lay.{Output, written, refuse, laid, Came}
-use Rattle.entries.specs.declared.Place.{Place}
-use Rattle.entries.specs.declared.Place.the-variants.{Kind, Size, Value, Time, Transfer, Outside, Excess}
+use Rattle.entries_next.specs.declared.Place.{Place}
+use Rattle.entries_next.specs.declared.Place.the-variants.{Kind, Size, Value, Time, Transfer, Outside, Excess}
 use Rattle.entries.specs.Entries.{walk}
 use Rattle.entries.specs.Laws.{walk-ended, accepted}
-use Rattle.message.specs.Message.{Message, Row, rows, memoryLoadTransfer, memoryLoad, requestProgram, requestLoad, requestDump, requestDumpService, dumpData, dumpComplete, volunteer, parameters, loopData, loopedData, least, leastIn, exact, programListed, formListed, idLength}
-use Rattle.message.specs.Read.{Reading, refused, message, row, byte, word, lastWord, memoryLoadTransferFields, memoryLoadFields, idFields, withId, requestProgramFields, requestLoadFields, requestDumpFields, requestDumpServiceFields, dumpDataFields, codeFields, refusedFields, ended, entriesFields, parametersFields, loopFields, byCode, longest, frame, fields, stated, said, read}
+use Rattle.message.specs.Message.{Message, memoryLoadTransfer, memoryLoad, requestProgram, requestLoad, requestDump, requestDumpService, dumpData, dumpComplete, volunteer, parameters, loopData, loopedData, programListed, formListed, idLength}
+use Rattle.message.specs.Read.{byte, word, lastWord, columns, memoryLoadTransferFields, memoryLoadFields, idFields, withId, requestProgramFields, requestLoadFields, requestDumpFields, requestDumpServiceFields, dumpDataFields, codeFields, refusedFields, ended, entriesFields, parametersFields, loopFields, Long, least, exactly, shortest, longest, Row, rows, find, frame, fields, Reading, refused, message, stated, said, read}
 use Rattle.message.specs.declared.Fields.{Fields}
-use Rattle.message.specs.Write.{layout, whole, idFits, listed, write, sent}
+use Rattle.message.specs.Write.{whole, idFits, Part, parts, joined, layout, listed, Sized, write, sent}
 
--- the fields of several bytes fit their sizes
-abbrev pub Sized : Message → Type 0
-Sized (memoryLoadTransfer number address bytes transfer) = (address < 256 ^ 4) × (transfer < 256 ^ 4)
-Sized (memoryLoad number address bytes) = address < 256 ^ 4
-Sized (requestProgram device format program form id processor info) = Unit {0}
-Sized (requestLoad number error) = Unit {0}
-Sized (requestDump address count) = (address < 256 ^ 4) × (count < 256 ^ 2)
-Sized (requestDumpService device format size compatibility info) = size < 256 ^ 4
-Sized (dumpData address bytes) = address < 256 ^ 4
-Sized dumpComplete = Unit {0}
-Sized volunteer = Unit {0}
-Sized (parameters number entries transfer) = transfer < 256 ^ 4
-Sized (loopData receipt bytes) = receipt < 256 ^ 2
-Sized (loopedData receipt bytes) = receipt < 256 ^ 2
+-- no frame is empty: it begins with its code
+joined-head : (x : ℕ) (ps : List Part) → (byte (joined (x ∷ []) ps) 0 ≡ x) × (0 < length (joined (x ∷ []) ps))
+unfolding joined
+joined-head x [] = (refl, omega arith)
+joined-head x (p ∷ rest) = (refl, omega arith)
 
--- a frame of a listed code whose length is right is read by its code
-pub by-code : (s : List ℕ) → 0 < least (byte s 0) → least (byte s 0) ≤ length s → length s ≤ longest (byte s 0) → fields s ≡ byCode (byte s 0) s
+pub begins : (m : Message) → 0 < length (layout m)
+unfolding layout
+begins m = joined-head (parts m .code) (parts m .rest) .1
+
+head : (m : Message) → byte (layout m) 0 ≡ parts m .code
+unfolding layout
+head m = joined-head (parts m .code) (parts m .rest) .0
+
+-- a message of a listed code whose length is right is read by its row
+by-row : (m : Message) {row : Row} → find rows (parts m .code) ≡ some row → shortest (row .long) ≤ length (layout m) → length (layout m) ≤ longest (row .long)
+    → fields (layout m) ≡ row .fields (layout m)
 unfolding fields
-by-code s k l m =
-    rw (ne-eqb (length s) 0 (omega arith), lt-ltb 0 (least (byte s 0)) k, le-ltb (length s) (least (byte s 0)) l, le-ltb (longest (byte s 0)) (length s) m)
+by-row m {row} e l h =
+    let s = layout m in
+    rw (ne-eqb (length s) 0 (omega (arith, begins m)), head m, e, le-ltb (length s) (shortest (row .long)) l, le-ltb (longest (row .long)) (length s) h)
 
-read-by : (s : List ℕ) → 0 < least (byte s 0) → least (byte s 0) ≤ length s → length s ≤ longest (byte s 0) → read s ≡ said s (byCode (byte s 0) s)
+-- a frame whose numbers are known is read as the message that they state
+read-as : (s : List ℕ) {f : Fields} → fields s ≡ f → read s ≡ said s f
 unfolding read
-read-by s k l m = ap (said s) (by-code s k l m)
+read-as s e = ap (said s) e
+
+-- a number that fits its size, in front of the other tests
+sized : (x n : ℕ) (rest : Bool) → ltb x (256 ^ n) && rest ≡ true → (x < 256 ^ n) × (rest ≡ true)
+sized x n rest h = let z = both (ltb x (256 ^ n)) rest h in (ltb-true x (256 ^ n) (z .0), z .1)
 
 -- a part that runs to the frame's end
 pub rest : (s : List ℕ) (at : ℕ) → take (length s - at) (drop at s) ≡ drop at s
@@ -62,7 +70,7 @@ last-word front x h =
 
 with-id-written : (d f p form : ℕ) (id : List ℕ) (proc : ℕ) (info : List ℕ)
     → said (layout (requestProgram d f p form id proc info)) (withId (length id) (layout (requestProgram d f p form id proc info))) ≡ message (requestProgram d f p form id proc info)
-unfolding layout
+unfolding layout find
 with-id-written d f p form id proc info =
     let n = length id in
     let front : List ℕ = 8 ∷ d ∷ f ∷ p ∷ form ∷ id in
@@ -76,7 +84,7 @@ with-id-written d f p form id proc info =
 
 parameters-written : (n : ℕ) (e : List ℕ) (t : ℕ) → walk Kind e ≡ Kind → t < 256 ^ 4
     → said (layout (parameters n e t)) (parametersFields (layout (parameters n e t))) ≡ message (parameters n e t)
-unfolding layout low
+unfolding layout low find
 parameters-written n e t k h =
     let size : length (layout (parameters n e t)) - 7 ≡ length e = simp length-append (omega arith) in
     let split : 20 ∷ n ∷ (e ++ (0 ∷ low 4 t)) ≡ (20 ∷ n ∷ (e ++ (0 ∷ []))) ++ low 4 t = rw (append-assoc e (0 ∷ []) (low 4 t)) in
@@ -94,96 +102,92 @@ whole-kind Excess e = let z : _≡_ {A = ℕ} 0 1 = cc in absurd (omega arith)
 
 -- The numbers of the frames that pass between the ends, and their variable parts.
 pub load-transfer-fields : (n a : ℕ) (d : List ℕ) (t : ℕ) → a < 256 ^ 4 → t < 256 ^ 4 → length (layout (memoryLoadTransfer n a d t)) ≤ 1500
-    → fields (layout (memoryLoadTransfer n a d t)) ≡ row 0 0 n 0 0 0 0 0 0 0 0 0 a t 0 6 (length d) 0 0
-unfolding layout byCode low least leastIn
+    → fields (layout (memoryLoadTransfer n a d t)) ≡ columns 0 0 n 0 0 0 0 0 0 0 0 0 a t 0 6 (length d) 0 0
+unfolding layout find low
 load-transfer-fields n a d t ha ht s =
     let size : length (layout (memoryLoadTransfer n a d t)) - 10 ≡ length d = simp length-append (omega arith) in
     let last : lastWord (layout (memoryLoadTransfer n a d t)) ≡ t = last-word (0 ∷ n ∷ (low 4 a ++ d)) t ht in
-    by-code (layout (memoryLoadTransfer n a d t)) (omega arith) (simp length-append (omega arith)) s ∙ (rw (last, size, number-low 4 a ha))
+    by-row (memoryLoadTransfer n a d t) refl (simp length-append (omega arith)) s ∙ (rw (last, size, number-low 4 a ha))
 
 pub load-transfer-part : (n a : ℕ) (d : List ℕ) (t : ℕ) → take (length d) (drop 6 (layout (memoryLoadTransfer n a d t))) ≡ d
 unfolding layout low
 load-transfer-part n a d t = take-at d (low 4 t) (length d) refl
 
 pub load-fields : (n a : ℕ) (d : List ℕ) → a < 256 ^ 4 → length (layout (memoryLoad n a d)) ≤ 1500
-    → fields (layout (memoryLoad n a d)) ≡ row 0 2 n 0 0 0 0 0 0 0 0 0 a 0 0 6 (length d) 0 0
-unfolding layout byCode low least leastIn
+    → fields (layout (memoryLoad n a d)) ≡ columns 0 2 n 0 0 0 0 0 0 0 0 0 a 0 0 6 (length d) 0 0
+unfolding layout find low
 load-fields n a d h s =
     let size : length (layout (memoryLoad n a d)) - 6 ≡ length d = omega arith in
-    by-code (layout (memoryLoad n a d)) (omega arith) (omega arith) s ∙ (rw (number-low 4 a h, size))
+    by-row (memoryLoad n a d) refl (omega arith) s ∙ (rw (number-low 4 a h, size))
 
 pub load-part : (n a : ℕ) (d : List ℕ) → take (length d) (drop 6 (layout (memoryLoad n a d))) ≡ d
 unfolding layout low
 load-part n a d = take-length d
 
-pub request-load-fields : (n e : ℕ) → fields (layout (requestLoad n e)) ≡ row 0 10 n e 0 0 0 0 0 0 0 0 0 0 0 0 0 0 0
-unfolding layout byCode least leastIn
-request-load-fields n e = by-code (layout (requestLoad n e)) (omega arith) (omega arith) (omega arith)
+pub request-load-fields : (n e : ℕ) → fields (layout (requestLoad n e)) ≡ columns 0 10 n e 0 0 0 0 0 0 0 0 0 0 0 0 0 0 0
+unfolding layout find
+request-load-fields n e = by-row (requestLoad n e) refl (omega arith) (omega arith)
 
-pub request-dump-fields : (a n : ℕ) → a < 256 ^ 4 → n < 256 ^ 2 → fields (layout (requestDump a n)) ≡ row 0 4 0 0 0 0 0 0 0 0 n 0 a 0 0 0 0 0 0
-unfolding layout byCode low least leastIn
+pub request-dump-fields : (a n : ℕ) → a < 256 ^ 4 → n < 256 ^ 2 → fields (layout (requestDump a n)) ≡ columns 0 4 0 0 0 0 0 0 0 0 n 0 a 0 0 0 0 0 0
+unfolding layout find low
 request-dump-fields a n ha hn =
-    by-code (layout (requestDump a n)) (omega arith) (omega arith) (omega arith) ∙ (rw (number-low 4 a ha, number-low 2 n hn))
+    by-row (requestDump a n) refl (omega arith) (omega arith) ∙ (rw (number-low 4 a ha, number-low 2 n hn))
 
 pub request-dump-service-fields : (d f m k : ℕ) (info : List ℕ) → m < 256 ^ 4 → length (layout (requestDumpService d f m k info)) ≤ 1500
-    → fields (layout (requestDumpService d f m k info)) ≡ row 0 12 0 0 d f 0 0 0 k 0 0 0 0 m 8 (length info) 0 0
-unfolding layout byCode low least leastIn
+    → fields (layout (requestDumpService d f m k info)) ≡ columns 0 12 0 0 d f 0 0 0 k 0 0 0 0 m 8 (length info) 0 0
+unfolding layout find low
 request-dump-service-fields d f m k info h s =
     let size : length (layout (requestDumpService d f m k info)) - 8 ≡ length info = omega arith in
-    by-code (layout (requestDumpService d f m k info)) (omega arith) (omega arith) s ∙ (rw (number-low 4 m h, size))
+    by-row (requestDumpService d f m k info) refl (omega arith) s ∙ (rw (number-low 4 m h, size))
 
 pub dump-data-fields : (a : ℕ) (d : List ℕ) → a < 256 ^ 4 → length (layout (dumpData a d)) ≤ 1500
-    → fields (layout (dumpData a d)) ≡ row 0 14 0 0 0 0 0 0 0 0 0 0 a 0 0 5 (length d) 0 0
-unfolding layout byCode low least leastIn
+    → fields (layout (dumpData a d)) ≡ columns 0 14 0 0 0 0 0 0 0 0 0 0 a 0 0 5 (length d) 0 0
+unfolding layout find low
 dump-data-fields a d h s =
     let size : length (layout (dumpData a d)) - 5 ≡ length d = omega arith in
-    by-code (layout (dumpData a d)) (omega arith) (omega arith) s ∙ (rw (number-low 4 a h, size))
+    by-row (dumpData a d) refl (omega arith) s ∙ (rw (number-low 4 a h, size))
 
 pub dump-data-part : (a : ℕ) (d : List ℕ) → take (length d) (drop 5 (layout (dumpData a d))) ≡ d
 unfolding layout low
 dump-data-part a d = take-length d
 
 pub dump-complete-fields : fields (layout dumpComplete) ≡ codeFields 1
-unfolding layout byCode least leastIn
-dump-complete-fields = by-code (layout dumpComplete) (omega arith) (omega arith) (omega arith)
+unfolding layout find
+dump-complete-fields = by-row dumpComplete refl (omega arith) (omega arith)
 
 -- the numbers of a program request for an operating system with no software id, as the machine sends it
-pub request-program-fields : (d p : ℕ) → fields (layout (requestProgram d 1 2 255 [] p [])) ≡ row 0 8 0 0 d 1 2 255 p 0 0 0 0 0 0 6 0 5 0
-unfolding layout byCode least leastIn
-request-program-fields d p = by-code (layout (requestProgram d 1 2 255 [] p [])) (omega arith) (omega arith) (omega arith)
-
--- a frame whose numbers are known is read as the message that they state
-read-as : (s : List ℕ) (f : Fields) → fields s ≡ f → read s ≡ said s f
-unfolding read
-read-as s f e = ap (said s) e
+pub request-program-fields : (d p : ℕ) → fields (layout (requestProgram d 1 2 255 [] p [])) ≡ columns 0 8 0 0 d 1 2 255 p 0 0 0 0 0 0 6 0 5 0
+unfolding layout find
+request-program-fields d p = by-row (requestProgram d 1 2 255 [] p []) refl (omega arith) (omega arith)
 
 pub read-written : (m : Message) → Sized m → listed m ≡ true → length (layout m) ≤ 1500 → read (layout m) ≡ message m
-unfolding layout byCode low least leastIn
+unfolding layout find low
 read-written (memoryLoadTransfer n a d t) h l s =
-    read-as (layout (memoryLoadTransfer n a d t)) _ (load-transfer-fields n a d t (h .0) (h .1) s) ∙ (rw (load-transfer-part n a d t))
-read-written (memoryLoad n a d) h l s = read-as (layout (memoryLoad n a d)) _ (load-fields n a d h s) ∙ (rw (load-part n a d))
+    let z = sized a 4 _ h in
+    read-as (layout (memoryLoadTransfer n a d t)) (load-transfer-fields n a d t (z .0) (sized t 4 true (z .1) .0) s) ∙ (rw (load-transfer-part n a d t))
+read-written (memoryLoad n a d) h l s = read-as (layout (memoryLoad n a d)) (load-fields n a d (sized a 4 true h .0) s) ∙ (rw (load-part n a d))
 read-written (requestProgram d f p form id proc info) h l s =
-    let c = both (programListed p) (idFits form (length id)) l in
-    let e = both (formListed form) (eqb (length id) (idLength form)) (c .1) in
+    let c = both (programListed p) (idFits form (length id) && true) l in
+    let e = both (formListed form) (eqb (length id) (idLength form)) (both (idFits form (length id)) true (c .1) .0) in
     let n : idLength form ≡ length id = sym (eqb-true (length id) (idLength form) (e .1)) in
-    read-by (layout (requestProgram d f p form id proc info)) (omega arith) (simp length-append (omega arith)) s
+    read-as (layout (requestProgram d f p form id proc info)) (by-row (requestProgram d f p form id proc info) refl (simp length-append (omega arith)) s)
     ∙ (rw (c .0, e .0, n) (with-id-written d f p form id proc info))
-read-written (requestLoad n e) h l s = read-as (layout (requestLoad n e)) _ (request-load-fields n e)
-read-written (requestDump a n) h l s = read-as (layout (requestDump a n)) _ (request-dump-fields a n (h .0) (h .1))
+read-written (requestLoad n e) h l s = read-as (layout (requestLoad n e)) (request-load-fields n e)
+read-written (requestDump a n) h l s = read-as (layout (requestDump a n)) (let z = sized a 4 _ h in request-dump-fields a n (z .0) (sized n 2 true (z .1) .0))
 read-written (requestDumpService d f m k info) h l s =
-    read-as (layout (requestDumpService d f m k info)) _ (request-dump-service-fields d f m k info h s) ∙ (rw (take-length info))
-read-written (dumpData a d) h l s = read-as (layout (dumpData a d)) _ (dump-data-fields a d h s) ∙ (rw (dump-data-part a d))
-read-written dumpComplete h l s = read-as (layout dumpComplete) _ dump-complete-fields
-read-written volunteer h l s = read-by (layout volunteer) (omega arith) (omega arith) (omega arith)
+    read-as (layout (requestDumpService d f m k info)) (request-dump-service-fields d f m k info (sized m 4 true h .0) s) ∙ (rw (take-length info))
+read-written (dumpData a d) h l s = read-as (layout (dumpData a d)) (dump-data-fields a d (sized a 4 true h .0) s) ∙ (rw (dump-data-part a d))
+read-written dumpComplete h l s = read-as (layout dumpComplete) dump-complete-fields
+read-written volunteer h l s = read-as (layout volunteer) (by-row volunteer refl (omega arith) (omega arith))
 read-written (parameters n e t) h l s =
-    read-by (layout (parameters n e t)) (omega arith) (simp length-append (omega arith)) s
-    ∙ parameters-written n e t (whole-kind (walk Kind e) l) h
+    read-as (layout (parameters n e t)) (by-row (parameters n e t) refl (simp length-append (omega arith)) s)
+    ∙ parameters-written n e t (whole-kind (walk Kind e) (both (whole (walk Kind e)) true l .0)) (sized t 4 true h .0)
 read-written (loopData r d) h l s =
     let size : length (layout (loopData r d)) - 3 ≡ length d = omega arith in
-    read-by (layout (loopData r d)) (omega arith) (omega arith) s ∙ (rw (number-low 2 r h, size, take-length d))
+    read-as (layout (loopData r d)) (by-row (loopData r d) refl (omega arith) s) ∙ (rw (number-low 2 r (sized r 2 true h .0), size, take-length d))
 read-written (loopedData r d) h l s =
     let size : length (layout (loopedData r d)) - 3 ≡ length d = omega arith in
-    read-by (layout (loopedData r d)) (omega arith) (omega arith) s ∙ (rw (number-low 2 r h, size, take-length d))
+    read-as (layout (loopedData r d)) (by-row (loopedData r d) refl (omega arith) s) ∙ (rw (number-low 2 r (sized r 2 true h .0), size, take-length d))
 
 -- pieces of a frame put together again
 on-byte : (s : List ℕ) (j : ℕ) → j < length s → byte s j ∷ drop (j + 1) s ≡ drop j s
@@ -203,7 +207,7 @@ last-on-word n s j o h =
     sym (append-nil (low n (word n s j))) ∙ (rw (← drop-of-length-le s {i = j + n} (omega arith)) (on-word n s j o (omega arith)))
 
 -- What an accepted frame's message gives back: the frame, from fields that are listed and of the right sizes.
-abbrev pub Back : List ℕ → Reading → Type 0
+abbrev Back : List ℕ → Reading → Type 0
 Back s (refused n) = Unit {0}
 Back s (message m) = (layout m ≡ s) × (listed m ≡ true) × Sized m
 
@@ -220,9 +224,39 @@ accepted-end (Transfer n) e = ap Transfer (by-cases (λ (x : ℕ). x ≡ 0 → n
 accepted-end Outside e = absurd (omega arith)
 accepted-end Excess e = absurd (omega arith)
 
+-- ---- the table of codes
+-- every row has something
+unfoldable pub Each : (Row → Type 0) → List Row → Type 0
+Each R [] = Unit {0}
+Each R (row ∷ rest) = R row × Each R rest
+
+infixr 4 _&_
+_&_ : {A B : Type 0} → A → B → A × B
+a & b = (a, b)
+
+-- what holds of no row, and of each row for its code, holds of what is found
+pub by-find : {R : Row → Type 0} (P : Option Row → Type 0) (rs : List Row) (code : ℕ) → Each R rs → P none → ((row : Row) → code ≡ row .code → R row → P (some row))
+    → P (find rs code)
+unfolding find Each
+by-find P [] code e n f = n
+by-find P (row ∷ rest) code e n f =
+    by-cases P (eqb code (row .code)) (λ b. f row (eqb-true code (row .code) b) (e .0)) (λ _. by-find P rest code (e .1) n f)
+
+-- what holds of every refusal, and of each row's numbers for a frame whose length is right, holds of every frame's numbers
+by-tests : (s : List ℕ) {R : Row → Type 0} (P : Fields → Type 0) → Each R rows → ((n : ℕ) → P (refusedFields (suc n)))
+    → ((row : Row) → byte s 0 ≡ row .code → shortest (row .long) ≤ length s → length s ≤ longest (row .long) → R row → P (row .fields s)) → P (fields s)
+unfolding fields
+by-tests s P each r f =
+    by-cases P (eqb (length s) 0) (λ _. r 0) (λ _.
+    by-find (λ (o : Option Row). P (frame s o)) rows (byte s 0) each (r 2) (λ row e h.
+    by-cases P (ltb (length s) (shortest (row .long))) (λ _. r 0) (λ l.
+    by-cases P (ltb (longest (row .long)) (length s)) (λ _. r 1) (λ m.
+    f row e (ltb-false (length s) (shortest (row .long)) l) (ltb-false (longest (row .long)) (length s) m) h))))
+
+-- ---- what is read is written again
 module _ (s : List ℕ) where
-  bound : Octets s → (n j : ℕ) → word n s j < 256 ^ n
-  bound o n j = part-bound n j s o
+  fits : Octets s → (n j : ℕ) → ltb (word n s j) (256 ^ n) ≡ true
+  fits o n j = lt-ltb (word n s j) (256 ^ n) (part-bound n j s o)
 
   -- the first byte before the rest
   headed : (code : ℕ) → byte s 0 ≡ code → 0 < length s → code ∷ drop 1 s ≡ s
@@ -233,33 +267,33 @@ module _ (s : List ℕ) where
   sound-refused n = (omega arith, λ _. rw (ne-eqb (suc n) 0 (omega arith)) tt)
 
   sound-memoryLoadTransfer : byte s 0 ≡ 0 → 10 ≤ length s → Sound s (memoryLoadTransferFields s)
-  unfolding layout Sound
+  unfolding layout find Sound
   sound-memoryLoadTransfer e h =
       let front : 6 + (length s - 10) ≡ length s - 4 = omega arith in (
         omega arith,
         λ o. (
           (rw (last-on-word 4 s (length s - 4) o (omega arith), ← front, on-part s 6 (length s - 10), on-word 4 s 2 o (omega arith), on-byte s 1 (omega arith)) (headed 0 e (omega arith))),
           refl,
-          (bound o 4 2, bound o 4 (length s - 4)),
+          rw (fits o 4 2, fits o 4 (length s - 4)),
         ),
       )
 
   sound-memoryLoad : byte s 0 ≡ 2 → 6 ≤ length s → Sound s (memoryLoadFields s)
-  unfolding layout Sound
+  unfolding layout find Sound
   sound-memoryLoad e h =
-      (omega arith, λ o. ((rw (rest s 6, on-word 4 s 2 o (omega arith), on-byte s 1 (omega arith)) (headed 2 e (omega arith))), refl, bound o 4 2))
+      (omega arith, λ o. ((rw (rest s 6, on-word 4 s 2 o (omega arith), on-byte s 1 (omega arith)) (headed 2 e (omega arith))), refl, rw (fits o 4 2)))
 
   sound-id : (n : ℕ) → byte s 0 ≡ 8 → 6 + n ≤ length s → programListed (byte s 3) ≡ true → formListed (byte s 4) ≡ true → n ≡ idLength (byte s 4)
       → Sound s (idFields n s)
-  unfolding layout Sound
+  unfolding layout find Sound
   sound-id n e l p f q =
       let next : 6 + n ≡ 5 + n + 1 = omega arith in
       let size : length (take n (drop 5 s)) ≡ n = simp (length-take, length-drop) (omega arith) in (
         omega arith,
         λ o. (
           (rw (rest s (6 + n), next, on-byte s (5 + n) (omega arith), on-part s 5 n, on-byte s 4 (omega arith), on-byte s 3 (omega arith), on-byte s 2 (omega arith), on-byte s 1 (omega arith)) (headed 8 e (omega arith))),
-          rw (p, f, size) (eq-eqb n (idLength (byte s 4)) q),
-          tt,
+          rw (p, f, size, eq-eqb n (idLength (byte s 4)) q),
+          refl,
         ),
       )
 
@@ -272,43 +306,43 @@ module _ (s : List ℕ) where
       (λ _. sound-refused 3)) (λ _. sound-refused 3)
 
   sound-requestLoad : byte s 0 ≡ 10 → length s ≡ 3 → Sound s (requestLoadFields s)
-  unfolding layout Sound
+  unfolding layout find Sound
   sound-requestLoad e h =
-      (omega arith, λ o. ((rw (← drop-of-length-le s {i = 3} (omega arith), on-byte s 2 (omega arith), on-byte s 1 (omega arith)) (headed 10 e (omega arith))), refl, tt))
+      (omega arith, λ o. ((rw (← drop-of-length-le s {i = 3} (omega arith), on-byte s 2 (omega arith), on-byte s 1 (omega arith)) (headed 10 e (omega arith))), refl, refl))
 
   sound-requestDump : byte s 0 ≡ 4 → length s ≡ 7 → Sound s (requestDumpFields s)
-  unfolding layout Sound
+  unfolding layout find Sound
   sound-requestDump e h =
-      (omega arith, λ o. ((rw (last-on-word 2 s 5 o (omega arith), on-word 4 s 1 o (omega arith)) (headed 4 e (omega arith))), refl, (bound o 4 1, bound o 2 5)))
+      (omega arith, λ o. ((rw (last-on-word 2 s 5 o (omega arith), on-word 4 s 1 o (omega arith)) (headed 4 e (omega arith))), refl, rw (fits o 4 1, fits o 2 5)))
 
   sound-requestDumpService : byte s 0 ≡ 12 → 8 ≤ length s → Sound s (requestDumpServiceFields s)
-  unfolding layout Sound
+  unfolding layout find Sound
   sound-requestDumpService e h = (
     omega arith,
     λ o. (
       (rw (rest s 8, on-byte s 7 (omega arith), on-word 4 s 3 o (omega arith), on-byte s 2 (omega arith), on-byte s 1 (omega arith)) (headed 12 e (omega arith))),
       refl,
-      bound o 4 3,
+      rw (fits o 4 3),
     ),
   )
 
   sound-dumpData : byte s 0 ≡ 14 → 5 ≤ length s → Sound s (dumpDataFields s)
-  unfolding layout Sound
-  sound-dumpData e h = (omega arith, λ o. ((rw (rest s 5, on-word 4 s 1 o (omega arith)) (headed 14 e (omega arith))), refl, bound o 4 1))
+  unfolding layout find Sound
+  sound-dumpData e h = (omega arith, λ o. ((rw (rest s 5, on-word 4 s 1 o (omega arith)) (headed 14 e (omega arith))), refl, rw (fits o 4 1)))
 
   alone : (code : ℕ) → byte s 0 ≡ code → length s ≡ 1 → code ∷ [] ≡ s
   alone code e h = rw (← drop-of-length-le s {i = 1} (omega arith)) (headed code e (omega arith))
 
   sound-dumpComplete : byte s 0 ≡ 1 → length s ≡ 1 → Sound s (codeFields 1)
-  unfolding layout Sound
-  sound-dumpComplete e h = (omega arith, λ _. (alone 1 e h, refl, tt))
+  unfolding layout find Sound
+  sound-dumpComplete e h = (omega arith, λ _. (alone 1 e h, refl, refl))
 
   sound-volunteer : byte s 0 ≡ 3 → length s ≡ 1 → Sound s (codeFields 3)
-  unfolding layout Sound
-  sound-volunteer e h = (omega arith, λ _. (alone 3 e h, refl, tt))
+  unfolding layout find Sound
+  sound-volunteer e h = (omega arith, λ _. (alone 3 e h, refl, refl))
 
   sound-entries : byte s 0 ≡ 20 → 7 ≤ length s → ended (walk Kind (drop 2 s)) ≡ 0 → Sound s (entriesFields s)
-  unfolding layout Sound
+  unfolding layout find Sound
   sound-entries e h z =
       let a = accepted (drop 2 s) (accepted-end (walk Kind (drop 2 s)) z) in
       let size : length (drop 2 s) - 5 ≡ length s - 7 = rw length-drop (omega arith) in
@@ -320,7 +354,7 @@ module _ (s : List ℕ) where
         λ o. (
           (rw (last-on-word 4 s (length s - 4) o (omega arith), joined, on-byte s 1 (omega arith)) (headed 20 e (omega arith))),
           rw entries,
-          bound o 4 (length s - 4),
+          rw (fits o 4 (length s - 4)),
         ),
       )
 
@@ -334,44 +368,35 @@ module _ (s : List ℕ) where
       by-cases (Sound s) (eqb n 0) (λ b. sound-entries e h (eqb-true n 0 b)) (λ b. sound-walked n refl (eqb-false n 0 b))
 
   sound-loopData : byte s 0 ≡ 24 → 3 ≤ length s → Sound s (loopFields 24 s)
-  unfolding layout Sound
-  sound-loopData e h = (omega arith, λ o. ((rw (rest s 3, on-word 2 s 1 o (omega arith)) (headed 24 e (omega arith))), refl, bound o 2 1))
+  unfolding layout find Sound
+  sound-loopData e h = (omega arith, λ o. ((rw (rest s 3, on-word 2 s 1 o (omega arith)) (headed 24 e (omega arith))), refl, rw (fits o 2 1)))
 
   sound-loopedData : byte s 0 ≡ 26 → 3 ≤ length s → Sound s (loopFields 26 s)
-  unfolding layout Sound
-  sound-loopedData e h = (omega arith, λ o. ((rw (rest s 3, on-word 2 s 1 o (omega arith)) (headed 26 e (omega arith))), refl, bound o 2 1))
+  unfolding layout find Sound
+  sound-loopedData e h = (omega arith, λ o. ((rw (rest s 3, on-word 2 s 1 o (omega arith)) (headed 26 e (omega arith))), refl, rw (fits o 2 1)))
 
-  -- a frame whose length is right for its code
-  sound-by-code : (code : ℕ) → byte s 0 ≡ code → least code ≤ length s → length s ≤ longest code → Sound s (byCode code s)
-  unfolding byCode least leastIn
-  sound-by-code code e l m =
-      by-cases (Sound s) (eqb code 0) (λ b. let z = eqb-true code 0 b in sound-memoryLoadTransfer (e ∙ z) (rw z at l)) (λ _.
-      by-cases (Sound s) (eqb code 2) (λ b. let z = eqb-true code 2 b in sound-memoryLoad (e ∙ z) (rw z at l)) (λ _.
-      by-cases (Sound s) (eqb code 8) (λ b. sound-requestProgram (e ∙ eqb-true code 8 b)) (λ _.
-      by-cases (Sound s) (eqb code 10) (λ b. let z = eqb-true code 10 b in sound-requestLoad (e ∙ z) (le-antisymm (rw z at m) (rw z at l))) (λ _.
-      by-cases (Sound s) (eqb code 4) (λ b. let z = eqb-true code 4 b in sound-requestDump (e ∙ z) (le-antisymm (rw z at m) (rw z at l))) (λ _.
-      by-cases (Sound s) (eqb code 12) (λ b. let z = eqb-true code 12 b in sound-requestDumpService (e ∙ z) (rw z at l)) (λ _.
-      by-cases (Sound s) (eqb code 14) (λ b. let z = eqb-true code 14 b in sound-dumpData (e ∙ z) (rw z at l)) (λ _.
-      by-cases (Sound s) (eqb code 1) (λ b. let z = eqb-true code 1 b in sound-dumpComplete (e ∙ z) (le-antisymm (rw z at m) (rw z at l))) (λ _.
-      by-cases (Sound s) (eqb code 3) (λ b. let z = eqb-true code 3 b in sound-volunteer (e ∙ z) (le-antisymm (rw z at m) (rw z at l))) (λ _.
-      by-cases (Sound s) (eqb code 20) (λ b. let z = eqb-true code 20 b in sound-parameters (e ∙ z) (rw z at l)) (λ _.
-      by-cases (Sound s) (eqb code 24) (λ b. let z = eqb-true code 24 b in sound-loopData (e ∙ z) (rw z at l)) (λ _.
-      by-cases (Sound s) (eqb code 26) (λ b. let z = eqb-true code 26 b in sound-loopedData (e ∙ z) (rw z at l)) (λ _. sound-refused 2))))))))))))
+  -- what holds of a row: a frame of its code whose length is right has numbers that are sound
+  abbrev SoundRow : Row → Type 0
+  SoundRow row = byte s 0 ≡ row .code → shortest (row .long) ≤ length s → length s ≤ longest (row .long) → Sound s (row .fields s)
 
--- what holds of a frame that passes the tests of code and length, and of each of their refusals, holds of every frame's numbers
-by-tests : (s : List ℕ) (P : Fields → Type 0) → ((n : ℕ) → P (refusedFields (suc n)))
-    → (least (byte s 0) ≤ length s → length s ≤ longest (byte s 0) → P (byCode (byte s 0) s)) → P (fields s)
-unfolding fields
-by-tests s P r f =
-    let code = byte s 0 in
-    by-cases P (eqb (length s) 0) (λ _. r 0) (λ _.
-    by-cases P (ltb 0 (least code)) (λ _.
-    by-cases P (ltb (length s) (least code)) (λ _. r 0) (λ l.
-    by-cases P (ltb (longest code) (length s)) (λ _. r 1) (λ m.
-    f (ltb-false (length s) (least code) l) (ltb-false (longest code) (length s) m)))) (λ _. r 2))
+  sound-rows : Each SoundRow rows
+  unfolding Each
+  sound-rows =
+      (λ e l _. sound-memoryLoadTransfer e l) &
+      (λ e l _. sound-memoryLoad e l) &
+      (λ e _ _. sound-requestProgram e) &
+      (λ e l m. sound-requestLoad e (le-antisymm m l)) &
+      (λ e l m. sound-requestDump e (le-antisymm m l)) &
+      (λ e l _. sound-requestDumpService e l) &
+      (λ e l _. sound-dumpData e l) &
+      (λ e l m. sound-dumpComplete e (le-antisymm m l)) &
+      (λ e l m. sound-volunteer e (le-antisymm m l)) &
+      (λ e l _. sound-parameters e l) &
+      (λ e l _. sound-loopData e l) &
+      (λ e l _. sound-loopedData e l) & tt
 
-sound : (s : List ℕ) → Sound s (fields s)
-sound s = by-tests s (Sound s) (sound-refused s) (sound-by-code s (byte s 0) refl)
+  sound : Sound s (fields s)
+  sound = by-tests s (Sound s) sound-rows sound-refused (λ row e l m h. h e l m)
 
 -- the variable part lies within the frame
 pub fields-inside : (s : List ℕ) → fields s .«data_at» + fields s .«data_length» ≤ length s
@@ -382,33 +407,18 @@ pub written-read : (s : List ℕ) → Octets s → (m : Message) → read s ≡ 
 unfolding read Sound
 written-read s o m e = subst (Back s) e (sound s .1 o)
 
--- the least lengths are at most n
-atMost : ℕ → List Row → Bool
-atMost n [] = true
-atMost n (row ∷ rest) = leb (row .length) n && atMost n rest
-
-least-small : (n : ℕ) (rs : List Row) (code : ℕ) → atMost n rs ≡ true → leastIn rs code ≤ n
-unfolding leastIn atMost
-least-small n [] code t = omega arith
-least-small n (row ∷ rest) code t =
-    let c = both (leb (row .length) n) (atMost n rest) t in
-    by-cases (λ (x : ℕ). x ≤ n) (eqb code (row .code)) (λ _. leb-true (row .length) n (c .0)) (λ _. least-small n rest code (c .1))
-
-longest-small : (code : ℕ) → longest code ≤ 1500
-unfolding least atMost
-longest-small code = by-cases (λ (x : ℕ). x ≤ 1500) (exact code) (λ _. least-small 1500 rows code refl) (λ _. omega arith)
-
 -- an accepted frame has at most 1,500 bytes
 pub fields-short : (s : List ℕ) → fields s .refusal ≡ 0 → length s ≤ 1500
+unfolding Each
 fields-short s =
-    by-tests s (λ (f : Fields). f .refusal ≡ 0 → length s ≤ 1500) (λ n e. absurd (omega arith)) (λ _ m _. le-trans m (longest-small (byte s 0)))
+    by-tests s {R = λ (row : Row). longest (row .long) ≤ 1500} (λ (f : Fields). f .refusal ≡ 0 → length s ≤ 1500) (omega arith) (λ n e. absurd (omega arith)) (λ row _ _ m h _. le-trans m h)
 
 -- what is read as a message is not refused, and its numbers state the message
-pub accepted-fields : (s : List ℕ) (m : Message) → read s ≡ message m → (fields s .refusal ≡ 0) × (stated s (fields s) ≡ m)
+pub accepted-fields : (s : List ℕ) (m : Message) → read s ≡ message m → (fields s .refusal ≡ 0) × (stated s (fields s) (find rows (fields s .code)) ≡ message m)
 unfolding read
 accepted-fields s m =
     let f = fields s in
-    by-cases (λ (r : Reading). r ≡ message m → (f .refusal ≡ 0) × (stated s f ≡ m)) (eqb (f .refusal) 0) (λ b e. (eqb-true (f .refusal) 0 b, cc)) (λ b e. let z : _≡_ {A = ℕ} 0 1 = cc in absurd (omega arith))
+    by-cases (λ (r : Reading). r ≡ message m → (f .refusal ≡ 0) × (stated s f (find rows (f .code)) ≡ message m)) (eqb (f .refusal) 0) (λ b e. (eqb-true (f .refusal) 0 b, e)) (λ b e. let z : _≡_ {A = ℕ} 0 1 = cc in absurd (omega arith))
 
 -- The two laws, of a writer's answer and buffer.
 

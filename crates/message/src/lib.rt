@@ -3,7 +3,8 @@
 
 // A frame's fields in numbers: what reading answers, what the ends decide by, and what crosses the boundary to C. Fields
 // that the frame's code does not have are 0. `data_at` and `data_length` are the place of the variable part in the frame,
-// `id_at` and `id_length` that of a software id. A refused frame has its refusal, and 0 in all else.
+// `id_at` and `id_length` that of a software id. A refused frame has its refusal, code 255, which no frame has, and 0 in
+// all else.
 #[repr(C)]
 pub struct Fields {
     pub data_at: usize,

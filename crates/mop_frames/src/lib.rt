@@ -4,11 +4,11 @@ ghost use Rattle.octets.specs.Lay.{Came};
 ghost use Rattle.message.specs.Message.{memoryLoadTransfer, memoryLoad, requestProgram, requestLoad, requestDump, requestDumpService, dumpData, dumpComplete, volunteer, parameters, loopData, loopedData};
 ghost use Rattle.message.specs.Read.{fields};
 ghost use Rattle.message.specs.Write.{write};
-ghost use Rattle.image.specs.Image.{checked, found};
-use image::Image;
-use image::Segment;
+ghost use Rattle.segments.specs.Segments.{checked, found};
 use message::Fields;
 use octets::Written;
+use segments::Image;
+use segments::Segment;
 
 // A frame's fields: mop_fields of the header.
 #[no_mangle]
@@ -137,12 +137,12 @@ pub extern "C" fn mop_write_looped(receipt: u16, bytes: &[u8], out: &mut [u8]) -
 pub extern "C" fn mop_image_check(file: &[u8], segment_size: u32) -> Image
     ensures { λ r. ⌜ r ≡ checked (now (file .entry)) «segment_size» ⌝ }
 {
-    image::check(file, segment_size)
+    segments::check(file, segment_size)
 }
 
 #[no_mangle]
 pub extern "C" fn mop_image_segment(file: &[u8], segment_size: u32, index: u64) -> Segment
     ensures { λ r. ⌜ r ≡ found (now (file .entry)) «segment_size» index ⌝ }
 {
-    image::find(file, segment_size, index)
+    segments::find(file, segment_size, index)
 }

@@ -1,3 +1,5 @@
 pub mod Number
 pub mod Lay
-pub mod Cases
+pub mod NumberLaws
+pub mod LayLaws
+pub mod TestLaws

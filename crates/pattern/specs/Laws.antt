@@ -11,7 +11,8 @@ use Rattle.bytes.specs.Bytes.{indexOf, slice}
 use Rattle.octets.specs.declared.Written.{Written}
 use Rattle.octets.specs.Lay.{refused, Came}
 use Rattle.text.specs.Text.{chars, placed}
-use Rattle.text.specs.Laws.{found, Adds, adds-there, adds-long}
+use Rattle.text.specs.Laws.{found, adds-there, adds-long}
+use Rattle.text.specs.Inner.{Adds}
 use Rattle.hexadecimal.specs.Hexadecimal.{pairs}
 use Rattle.pattern.specs.Pattern.{behind, skip, row, bytes, piece, after, filled, filling, sentenced}
 

@@ -1,3 +1,3 @@
 pub mod Pattern
 pub mod Laws
-pub mod Most
+pub mod MostLaws

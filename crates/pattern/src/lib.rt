@@ -4,7 +4,7 @@ ghost use Prim.Native.Nat.{_-_, _≤_, _<_};
 ghost use lib.ListN.{length, getD, drop};
 ghost use Rattle.octets.specs.Lay.{Came};
 ghost use Rattle.text.specs.Text.{Added};
-ghost use Rattle.text.specs.Laws.{Adds};
+ghost use Rattle.text.specs.Inner.{Adds};
 ghost use Rattle.pattern.specs.Pattern.{behind, skip, row, bytes, isMark, value, piece, after, filled, sentenced};
 use octets::Written;
 

@@ -1,50 +1,52 @@
--- The ways through `fields` for a frame that is not empty, each with its conditions as the code tests them.
-use Prim.Native.Nat.{ℕ, _+_, _-_, _<_, _≤_}
-use mathlib.Core.Path.{_≡_, refl, ap, _∙_}
+-- The ways through `fields` for a frame that is not empty: its code and length are refused, or its row gives its numbers.
+use Prim.Native.Nat.{ℕ, _≤_}
+use mathlib.Core.Path.{_≡_, refl, sym, _∙_}
 use mathlib.Core.Bool.{Bool, true, false, cond}
 use mathlib.Core.List.{List}
+use mathlib.Core.Option.{Option, none, some}
 use native.Mathlib.Omega.{arith}
 use lib.ListN.{length}
 use lib.Dec.{ltb}
-use borrow.Author.Tests.{ne-eqb, lt-ltb, le-ltb}
-use Rattle.message.specs.Message.{least, exact}
-use Rattle.message.specs.Read.{refusedFields, byte, longest, byCode, fields}
-use Rattle.reader.specs.Table.{marked}
+use borrow.Author.Tests.{ne-eqb, ltb-false}
+use Rattle.message.specs.declared.Fields.{Fields}
+use Rattle.message.specs.Read.{shortest, longest, refusedFields, byte, Row, rows, find, frame, fields}
+use Rattle.codes.specs.Table.{refusal}
+use Rattle.reader.specs.Row.{atLeast, byRow}
 
-unmarked : (b : Bool) (n m : ℕ) → n ≡ cond b (256 + m) 0 → n < 256 → b ≡ false
-unmarked true n m e h = absurd (omega arith)
-unmarked false n m e h = refl
+-- the two tests of a length
+refused-by : (early over : Bool) (f : Fields) → (_≡_ {A = ℕ} (cond early 1 (cond over 2 0)) 0 → ⊥)
+    → cond early (refusedFields 1) (cond over (refusedFields 2) f) ≡ refusedFields (cond early 1 (cond over 2 0))
+refused-by true over f h = refl
+refused-by false true f h = refl
+refused-by false false f h = absurd (h refl)
 
-mark : (b : Bool) (n m : ℕ) → n ≡ cond b (256 + m) 0 → 256 ≤ n → (b ≡ true) × (n - 256 ≡ m)
-mark true n m e h = (refl, omega arith)
-mark false n m e h = absurd (omega arith)
+right-by : (early over : Bool) (f : Fields) → _≡_ {A = ℕ} (cond early 1 (cond over 2 0)) 0
+    → (cond early (refusedFields 1) (cond over (refusedFields 2) f) ≡ f) × (early ≡ false)
+right-by true over f h = absurd (omega arith)
+right-by false true f h = absurd (omega arith)
+right-by false false f h = (refl, refl)
 
-module _ (s : List ℕ) (full : length s ≡ 0 → ⊥) (n : ℕ) (e : n ≡ marked (byte s 0)) where
-  pub unlisted : n < 256 → refusedFields 3 ≡ fields s
-  unfolding fields
-  unlisted h = rw (ne-eqb (length s) 0 full, unmarked (ltb 0 (least (byte s 0))) n (least (byte s 0)) e h)
+module _ (s : List ℕ) where
+  frame-refused : (o : Option Row) → (refusal (length s) o ≡ 0 → ⊥) → frame s o ≡ refusedFields (refusal (length s) o)
+  frame-refused none h = refl
+  frame-refused (some row) h =
+      refused-by (ltb (length s) (shortest (row .long))) (ltb (longest (row .long)) (length s)) (row .fields s) h
 
-  module _ (k : 256 ≤ n) where
-    known : ltb 0 (least (byte s 0)) ≡ true
-    known = mark (ltb 0 (least (byte s 0))) n (least (byte s 0)) e k .0
+  frame-right : (o : Option Row) → refusal (length s) o ≡ 0 → (frame s o ≡ byRow s o) × (atLeast o ≤ length s)
+  frame-right none h = absurd (omega arith)
+  frame-right (some row) h =
+      let r = right-by (ltb (length s) (shortest (row .long))) (ltb (longest (row .long)) (length s)) (row .fields s) h in
+      (r .0, ltb-false (length s) (shortest (row .long)) (r .1))
 
-    pub shortest : n - 256 ≡ least (byte s 0)
-    shortest = mark (ltb 0 (least (byte s 0))) n (least (byte s 0)) e k .1
+  module _ (n : ℕ) (e : n ≡ refusal (length s) (find rows (byte s 0))) where
+    pub long : n ≡ 0 → atLeast (find rows (byte s 0)) ≤ length s
+    long h = frame-right (find rows (byte s 0)) (sym e ∙ h) .1
 
-    pub early : length s < n - 256 → refusedFields 1 ≡ fields s
-    unfolding fields
-    early h = rw (ne-eqb (length s) 0 full, known, lt-ltb (length s) (least (byte s 0)) (rw shortest at h))
-
-    module _ (h : n - 256 ≤ length s) (m : ℕ) (q : m ≡ cond (exact (byte s 0)) (n - 256) 1500) where
-      limit : m ≡ longest (byte s 0)
-      limit = q ∙ ap (λ (i : ℕ). cond (exact (byte s 0)) i 1500) shortest
-
-      pub excess : m < length s → refusedFields 2 ≡ fields s
+    module _ (full : length s ≡ 0 → ⊥) where
+      pub refuses : (n ≡ 0 → ⊥) → refusedFields n ≡ fields s
       unfolding fields
-      excess l =
-          rw (ne-eqb (length s) 0 full, known, le-ltb (length s) (least (byte s 0)) (rw shortest at h), lt-ltb (longest (byte s 0)) (length s) (rw limit at l))
+      refuses h = rw (ne-eqb (length s) 0 full, frame-refused (find rows (byte s 0)) (rw e at h), e)
 
-      pub whole : length s ≤ m → byCode (byte s 0) s ≡ fields s
+      pub right : n ≡ 0 → byRow s (find rows (byte s 0)) ≡ fields s
       unfolding fields
-      whole l =
-          rw (ne-eqb (length s) 0 full, known, le-ltb (length s) (least (byte s 0)) (rw shortest at h), le-ltb (longest (byte s 0)) (length s) (rw limit at l))
+      right h = rw (ne-eqb (length s) 0 full, frame-right (find rows (byte s 0)) (sym e ∙ h) .0)

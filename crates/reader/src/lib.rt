@@ -2,69 +2,10 @@
 ghost use mathlib.Core.Path.{_≡_};
 ghost use Prim.Native.Nat.{_≤_};
 ghost use lib.ListN.{length};
-ghost use mathlib.Core.Bool.{cond};
-ghost use Rattle.message.specs.Message.{least, exact};
-ghost use Rattle.message.specs.Read.{fields, byCode, refusedFields, memoryLoadTransferFields, memoryLoadFields, requestProgramFields, withId, requestLoadFields, requestDumpFields, requestDumpServiceFields, dumpDataFields, codeFields, ended, parametersFields, loopFields};
-ghost use Rattle.reader.specs.Table.{marked};
-use entries::Place;
+ghost use Rattle.message.specs.Read.{rows, find, fields, refusedFields, memoryLoadTransferFields, memoryLoadFields, requestProgramFields, withId, requestLoadFields, requestDumpFields, requestDumpServiceFields, dumpDataFields, codeFields, ended, parametersFields, loopFields};
+ghost use Rattle.reader.specs.Row.{atLeast, byRow};
+use entries_next::Place;
 use message::Fields;
-
-// What marks a known code in the table of codes.
-const KNOWN: u16 = 256;
-
-// The codes 0 to 26: the mark and the least length of a known code, or 0.
-const CODES: [u16; 27] = [
-    KNOWN + 10,
-    KNOWN + 1,
-    KNOWN + 6,
-    KNOWN + 1,
-    KNOWN + 7,
-    0,
-    0,
-    0,
-    KNOWN + 6,
-    0,
-    KNOWN + 3,
-    0,
-    KNOWN + 8,
-    0,
-    KNOWN + 5,
-    0,
-    0,
-    0,
-    0,
-    0,
-    KNOWN + 7,
-    0,
-    0,
-    0,
-    KNOWN + 3,
-    0,
-    KNOWN + 3,
-];
-
-// The table's entry of a code, 0 beyond its end.
-fn entry(code: u8) -> u16
-    ensures { λ r. ⌜ r ≡ marked code ⌝ }
-{
-    if 26 < code {
-        return 0;
-    }
-    CODES[code as usize]
-}
-
-// The longest frame of a code.
-fn longest(code: u8, least: usize) -> usize
-    ensures { λ r. ⌜ r ≡ cond (exact code) least 1500 ⌝ }
-{
-    match code {
-        10 => least,
-        4 => least,
-        1 => least,
-        3 => least,
-        _ => 1500,
-    }
-}
 
 // No fields.
 const BLANK: Fields = Fields {
@@ -98,12 +39,13 @@ fn of_code(code: u8) -> Fields
     f
 }
 
-// A refused frame.
+// A refused frame: no code.
 fn refused(refusal: u8) -> Fields
     ensures { λ r. ⌜ r ≡ refusedFields refusal ⌝ }
 {
     let mut f = BLANK;
     f.refusal = refusal;
+    f.code = 255;
     f
 }
 
@@ -114,25 +56,17 @@ pub fn read(s: &[u8]) -> Fields
     if s.len() == 0 {
         return refused(1);
     }
-    let code = s[0];
-    let entry = entry(code);
-    if entry < KNOWN {
-        return refused(3);
+    let refusal = codes::refusal(s[0], s.len());
+    if refusal != 0 {
+        return refused(refusal);
     }
-    let least = (entry - KNOWN) as usize;
-    if s.len() < least {
-        return refused(1);
-    }
-    if longest(code, least) < s.len() {
-        return refused(2);
-    }
-    by_code(code, s)
+    by_code(s[0], s)
 }
 
 // A frame of this code, which has at least its least length. Each arm returns by itself: answers that meet are slower.
 fn by_code(code: u8, s: &[u8]) -> Fields
-    requires { ⌜ least code ≤ length (now s) ⌝ }
-    ensures { λ r. ⌜ r ≡ byCode code (now (s .entry)) ⌝ }
+    requires { ⌜ atLeast (find rows code) ≤ length (now s) ⌝ }
+    ensures { λ r. ⌜ r ≡ byRow (now (s .entry)) (find rows code) ⌝ }
 {
     match code {
         0 => return memory_load_transfer(s),

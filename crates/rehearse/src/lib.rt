@@ -72,7 +72,7 @@ fn perform(
     let digits = text::part(input, script.image_at, script.image_length);
     let decoded = hexadecimal::decode(digits, &mut space);
     let file = text::part(&space, 0, decoded.length);
-    let image = image::check(file, script.segment_size);
+    let image = segments::check(file, script.segment_size);
     if image.refusal != 0 {
         return output::refusal(words, image.refusal);
     }

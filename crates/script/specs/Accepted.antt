@@ -7,7 +7,7 @@ use native.Mathlib.Omega.{arith}
 use lib.ListN.{length, take, drop}
 use lib.Dec.{eqb, leb}
 use borrow.Author.Tests.{leb-true, eqb-true}
-use Rattle.octets.specs.Cases.{both}
+use Rattle.octets.specs.TestLaws.{both}
 use Rattle.decimal.specs.Decimal.{isNumber, value}
 use Rattle.script.specs.Script.{ranges, thirdAt, memory, size, repeats, isSettings, isImage, only, events, end, settingsLine, imageLine, eventsLine, wellFormed, malformed, said, checked}
 use Rattle.script.specs.declared.Script.{Script}

@@ -6,7 +6,7 @@ use mathlib.Core.List.{List}
 use native.Mathlib.Omega.{arith}
 use lib.Dec.{leb}
 use borrow.Author.Tests.{leb-true}
-use Rattle.octets.specs.Cases.{both}
+use Rattle.octets.specs.TestLaws.{both}
 use Rattle.decimal.specs.Decimal.{isNumber, value}
 use Rattle.script.specs.Script.{ranges, memory, size, repeats, isSettings}
 use Rattle.script.specs.Inner.{number, numbers, unsettled, settings}

@@ -1,21 +1,21 @@
 -- The ways through a call, and what it says that no refusal of a list applies.
 use Prim.Native.Nat.{ℕ, _≤_, _<_}
-use mathlib.Core.Path.{_≡_, refl, subst, sym, ap, _∙_}
-use mathlib.Core.Bool.{Bool, true, false, cond as pick}
+use mathlib.Core.Path.{_≡_, refl, subst, sym, _∙_}
+use mathlib.Core.Bool.{Bool, true, false}
 use mathlib.Core.List.{List, [], _∷_}
 use native.Mathlib.Omega.{arith}
 use lib.ListN.{length}
 use lib.Dec.{eqb}
 use borrow.Author.Tests.{eqb-true, eqb-false, eq-eqb, ne-eqb}
 use Rattle.octets.specs.declared.Written.{Written}
-use Rattle.octets.specs.Cases.{by-cases}
-use Rattle.octets.specs.Lay.{Output, Came, written, refused}
+use Rattle.octets.specs.TestLaws.{by-cases}
+use Rattle.octets.specs.Lay.{Output, Came, refused}
 use Rattle.message.specs.declared.Fields.{Fields}
 use Rattle.message.specs.Message.{Message}
 use Rattle.message.specs.Read.{fields}
 use Rattle.message.specs.Write.{layout, listed, write, sent}
 use Rattle.message.specs.Laws.{write-sent}
-use Rattle.step.specs.Step.{Sending, nothing, sends, Act, Outcome, unless, first, acts, refuses, gives, call, frameCall, Leaves}
+use Rattle.step.specs.Step.{sends, Act, unless, first, acts, gives, call, frameCall, Leaves}
 
 -- ---- refusals
 -- no refusal applies: the condition holds

@@ -6,7 +6,7 @@ use mathlib.Core.Bool.{Bool, cond as pick}
 use mathlib.Core.List.{List, [], _∷_}
 use lib.Dec.{eqb}
 use Rattle.octets.specs.declared.Written.{Written}
-use Rattle.octets.specs.Lay.{Output, written, refused}
+use Rattle.octets.specs.Lay.{written, refused}
 use Rattle.message.specs.declared.Fields.{Fields}
 use Rattle.message.specs.Message.{Message}
 use Rattle.message.specs.Read.{fields}

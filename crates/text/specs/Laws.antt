@@ -11,8 +11,9 @@ use borrow.Author.Tests.{lt-ltb, le-ltb, lt-leb, le-leb, leb-true, leb-false}
 use Rattle.bytes.specs.Bytes.{indexOf, slice}
 use Rattle.octets.specs.declared.Written.{Written}
 use Rattle.octets.specs.Lay.{refuse, written, fits, over, put, Came}
-use Rattle.octets.specs.Cases.{by-cases}
-use Rattle.text.specs.Text.{placed, behind, Added}
+use Rattle.octets.specs.TestLaws.{by-cases}
+use Rattle.text.specs.Text.{placed, Added}
+use Rattle.text.specs.Inner.{Adds}
 
 -- by the two ways of a test
 pub by-test : (test : Bool) (P : Type 0) → (test ≡ true → P) → (test ≡ false → P) → P
@@ -84,12 +85,7 @@ over-append xs ys at out h =
     sym (drop-drop (length ys) (at + length xs) (P ++ R)) ∙ ap (drop (length ys)) (drop-at P R (at + length xs) n) in
     rw (e₁, take-at P R (at + length xs) n, e₂, drop-drop (length ys) (at + length xs) out, length-append xs ys, ← add-assoc at (length xs) (length ys)) (simp append-assoc)
 
--- ---- Adding by parts: where the whole fits, it stands there at the end; the place behind it is right in any case.
-pub record Adds (xs : List ℕ) (at : ℕ) (out : List ℕ) (r : ℕ) (out′ : List ℕ) : Type 0 where
-  pub behind-it : r ≡ behind xs at out
-  pub long : length out′ ≡ length out
-  pub stands : at + length xs ≤ length out → out′ ≡ over xs at out
-
+-- ---- adding by parts
 pub adds : (xs : List ℕ) (at : ℕ) (out : List ℕ) (r : ℕ) (out′ : List ℕ) → Added xs at out r out′ → Adds xs at out r out′
 adds xs at out r out′ a =
     record {

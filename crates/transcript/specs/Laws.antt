@@ -15,7 +15,7 @@ use Rattle.text.specs.Text.{chars, placed}
 use Rattle.text.specs.Laws.{placed-there}
 use Rattle.hexadecimal.specs.Hexadecimal.{pairs}
 use Rattle.pattern.specs.Pattern.{skip, filled, filling, sentenced}
-use Rattle.pattern.specs.Most.{weigh, every, filling-most}
+use Rattle.pattern.specs.MostLaws.{weigh, every, filling-most}
 use Rattle.words.specs.declared.Words.{Words}
 use Rattle.words.specs.Words.{phrase, spoken}
 use Rattle.words.specs.Laws.{spoken-most}

@@ -12,7 +12,7 @@ use Rattle.octets.specs.Lay.{Came}
 use Rattle.text.specs.Text.{chars, placed}
 use Rattle.hexadecimal.specs.Hexadecimal.{pairs}
 use Rattle.pattern.specs.Pattern.{filling, sentenced}
-use Rattle.pattern.specs.Most.{weigh, every, filling-most}
+use Rattle.pattern.specs.MostLaws.{weigh, every, filling-most}
 use Rattle.words.specs.declared.Words.{Words}
 use Rattle.words.specs.Words.{phrases, spoken}
 

@@ -3,7 +3,7 @@ ghost use mathlib.Core.Path.{_≡_};
 ghost use Rattle.octets.specs.Lay.{Came};
 ghost use Rattle.message.specs.Message.{requestProgram, parameters};
 ghost use Rattle.message.specs.Write.{write, idFits, whole};
-use entries::Place;
+use entries_next::Place;
 use octets::Written;
 
 // Code 8, request program. The id has exactly the length that the form says.

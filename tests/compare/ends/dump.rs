@@ -77,9 +77,14 @@ impl End for Dump {
         buffer: &mut [u8],
         reply: &mut [u8],
     ) -> Option<Written> {
-        let (timer, frame) = event.numbers()?;
-        let answer = mop_proved::dump_update(self.settings, record, timer, frame, buffer, reply);
-        Some(answer)
+        let settings = self.settings;
+        Some(match event {
+            Event::Start => return None,
+            Event::Frame(Hex(bytes)) => {
+                mop_proved::dump_update_frame(settings, record, bytes, buffer, reply)
+            }
+            Event::Timer => mop_proved::dump_update_timer(settings, record, buffer, reply),
+        })
     }
 
     fn begun(&self) -> Self::Record {

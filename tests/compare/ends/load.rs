@@ -78,10 +78,14 @@ impl End for Load<'_> {
         _: &mut [u8],
         reply: &mut [u8],
     ) -> Option<Written> {
-        let (timer, frame) = event.numbers()?;
         let (settings, Hex(file)) = (self.settings, self.file);
-        let answer = mop_proved::load_update(settings, record, timer, file, frame, reply);
-        Some(answer)
+        Some(match event {
+            Event::Start => return None,
+            Event::Frame(Hex(bytes)) => {
+                mop_proved::load_update_frame(settings, record, file, bytes, reply)
+            }
+            Event::Timer => mop_proved::load_update_timer(settings, record, file, reply),
+        })
     }
 
     fn begun(&self) -> Self::Record {

@@ -80,17 +80,7 @@ pub enum Event<'a> {
     Timer,
 }
 
-impl<'a> Event<'a> {
-    /// Whether the timer has run out, and the frame: what a step in its place
-    /// is given. With a timer the frame is not looked at.
-    fn numbers(&self) -> Option<(u8, &'a [u8])> {
-        match *self {
-            Event::Start => None,
-            Event::Frame(Hex(bytes)) => Some((0, bytes)),
-            Event::Timer => Some((255, &[8, 0, 1, 2, 255, 0])),
-        }
-    }
-
+impl Event<'_> {
     fn name(&self) -> &'static str {
         match self {
             Event::Start => "start",

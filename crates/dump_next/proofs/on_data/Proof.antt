@@ -49,7 +49,9 @@ ignored-requires-4 : tie.Need-ignored-requires-4
 ignored-requires-4 c κs = search needs
 
 returns-4 : tie.Need-returns-4
-returns-4 c = rw (sentFor (c .before .before), lt-leb _ _ (c .before .if4 .taken)) (c .ignored4 .ensures)
+returns-4 c =
+    let a = c .before .before .before .before .before .before .before .before .before .args in
+    rw (sentFor (c .before .before), lt-leb 1 (a .length) (omega arith)) (c .ignored4 .ensures)
 
 asked-requires : tie.Need-asked-requires
 asked-requires c κs = search needs
@@ -59,8 +61,10 @@ ignored-requires-5 c κs = search needs
 
 returns-5 : tie.Need-returns-5
 returns-5 c =
-    let some = le-leb _ _ (c .before .before .before .if4 .left) in
-    rw (sentFor (c .before .before .before .before), some, ← c .before .before .asked .ensures, lt-leb _ _ (c .before .if5 .taken)) (c .ignored5 .ensures)
+    let sized = c .before .before .before in
+    let a = sized .before .before .before .before .before .before .before .before .args in
+    let long = lt-leb (a .length) (asked (a .s) (a .h)) (omega (arith, c .before .before .asked .ensures)) in
+    rw (sentFor (sized .before), le-leb 1 (a .length) (omega arith), long) (c .ignored5 .ensures)
 
 add-reached : tie.Need-add-reached
 add-reached c = search needs
@@ -74,9 +78,9 @@ taken-requires c κs = rw (c .reached .ensures) (omega arith)
 returns-6 : tie.Need-returns-6
 returns-6 c =
     let went = c .before .before .before .before .before in
-    let some = le-leb _ _ (went .if4 .left) in
-    let enough = le-leb _ _ (c .before .before .before .if5 .left) in
-    rw (sentFor (went .before), some, ← c .before .before .before .before .asked .ensures, enough)
+    let a = went .before .before .before .before .before .before .before .before .args in
+    let enough = le-leb (a .length) (asked (a .s) (a .h)) (omega (arith, c .before .before .before .before .asked .ensures)) in
+    rw (sentFor (went .before), le-leb 1 (a .length) (omega arith), enough)
     (rw (c .before .reached .ensures) at (c .taken .ensures))
 
 pub on-data-spec : {M : Type 1} → statement M

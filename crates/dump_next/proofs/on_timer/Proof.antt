@@ -1,3 +1,4 @@
+use native.Mathlib.Omega.{arith}
 use borrow.Author.Needs.{needs}
 use borrow.Author.Tests.{eq-eqb, ne-eqb, lt-ltb, le-ltb}
 use Rattle.dump_next.proofs.on_timer.Statement.{statement}
@@ -25,17 +26,18 @@ returns-3 : tie.Need-returns-3
 returns-3 c =
     let went = c .before .before .before .before .before in
     let verdict = went .before .before .if1 .left in
-    let waiting = went .if2 .left in
-    rw (eq-eqb _ _ verdict, eq-eqb _ _ waiting, lt-ltb _ _ (c .before .before .if3 .taken)) (rw (c .before .repeated .ensures) at (c .asks .ensures))
+    let a = went .before .before .before .before .args in
+    rw (eq-eqb _ _ verdict, eq-eqb _ _ (went .if2 .left), lt-ltb (a .session .repeats) (a .settings .repeats) (omega arith)) (rw (c .before .repeated .ensures) at (c .asks .ensures))
 
 completes-requires : tie.Need-completes-requires
 completes-requires c κs = search needs
 
 returns-4 : tie.Need-returns-4
 returns-4 c =
-    let verdict = c .before .before .before .before .before .before .if1 .left in
-    let waiting = c .before .before .before .before .if2 .left in
-    rw (eq-eqb _ _ verdict, eq-eqb _ _ waiting, le-ltb _ _ (c .before .if3 .left)) (c .completes .ensures)
+    let went = c .before .before .before .before in
+    let verdict = went .before .before .if1 .left in
+    let a = went .before .before .before .before .args in
+    rw (eq-eqb _ _ verdict, eq-eqb _ _ (went .if2 .left), le-ltb (a .session .repeats) (a .settings .repeats) (omega arith)) (c .completes .ensures)
 
 pub on-timer-spec : {M : Type 1} → statement M
 on-timer-spec =

@@ -1,3 +1,4 @@
+use native.Mathlib.Omega.{arith}
 use borrow.Author.Needs.{needs}
 use borrow.Author.Tests.{eq-eqb, ne-eqb}
 use Rattle.dump_next.proofs.react.Statement.{statement}
@@ -19,15 +20,19 @@ ignored-requires-2 : tie.Need-ignored-requires-2
 ignored-requires-2 c κs = search needs
 
 returns-2 : tie.Need-returns-2
-returns-2 c = rw (eq-eqb _ _ (c .before .before .if1 .left), c .before .match .keys1) (c .on-offer .ensures)
+returns-2 c =
+    let code = c .before .before .before .before .args .f .code in
+    rw (eq-eqb _ _ (c .before .before .if1 .left), eq-eqb code 12 (omega arith)) (c .on-offer .ensures)
 
 returns-3 : tie.Need-returns-3
-returns-3 c = rw (eq-eqb _ _ (c .before .before .if1 .left), c .before .match .keys2) (c .on-data .ensures)
+returns-3 c =
+    let code = c .before .before .before .before .args .f .code in
+    rw (eq-eqb _ _ (c .before .before .if1 .left), ne-eqb code 12 (omega arith), eq-eqb code 14 (omega arith)) (c .on-data .ensures)
 
 returns-4 : tie.Need-returns-4
 returns-4 c =
-    let other = c .before .match .rest in
-    rw (eq-eqb _ _ (c .before .before .if1 .left), ne-eqb _ _ (other .0 .1), ne-eqb _ _ (other .1)) (c .ignored2 .ensures)
+    let code = c .before .before .before .before .args .f .code in
+    rw (eq-eqb _ _ (c .before .before .if1 .left), ne-eqb code 12 (omega arith), ne-eqb code 14 (omega arith)) (c .ignored2 .ensures)
 
 pub react-spec : {M : Type 1} → statement M
 react-spec =

@@ -8,9 +8,11 @@ use borrow.Author.Needs.{needs}
 use borrow.Author.Tests.{not-false}
 use lib.ListN.{length, getD, take, drop, length-drop, take-append-drop}
 use lib.Seq.{length-take-le, drop-cons, drop-drop}
-use Rattle.entries.specs.declared.Place.the-variants.{Kind}
-use Rattle.entries.specs.Entries.{listed, walk}
-use Rattle.entries.specs.Grammar.{Fields, ten, walk-entry}
+use Rattle.entries_next.specs.declared.Place.the-variants.{Kind}
+use Rattle.entries_next.specs.Next.{listed}
+use Rattle.entries.specs.Entries.{walk}
+use Rattle.entries.specs.Grammar.{Fields}
+use Rattle.entries.specs.GrammarLaws.{ten, walk-entry}
 use Rattle.entries.proofs.behind.Statement.{statement}
 use Rattle.entries.proofs.behind.Tie as tie
 

@@ -4,7 +4,7 @@ use native.Mathlib.Omega.{arith}
 use mathlib.Core.Path.{_≡_, refl, sym, ap, _∙_}
 use borrow.Author.Needs.{needs}
 use lib.ListN.{length, drop, drop-of-length-le}
-use Rattle.entries.specs.declared.Place.the-variants.{Kind}
+use Rattle.entries_next.specs.declared.Place.the-variants.{Kind}
 use Rattle.entries.specs.Entries.{walk}
 use Rattle.entries.specs.Laws.{walk-at, walk-outside}
 use Rattle.entries.proofs.rest.Statement.{statement}

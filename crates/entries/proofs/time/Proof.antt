@@ -9,7 +9,7 @@ use borrow.Author.Needs.{needs}
 use borrow.Author.Tests.{not-false}
 use lib.ListN.{length, getD, take, drop}
 use lib.Seq.{drop-cons}
-use Rattle.entries.specs.Entries.{field}
+use Rattle.host_time.specs.HostTime.{field}
 use Rattle.entries.specs.Grammar.{Fields}
 use Rattle.entries.proofs.time.Statement.{statement}
 use Rattle.entries.proofs.time.Tie as tie

@@ -4,8 +4,9 @@ use native.Mathlib.Omega.{arith}
 use mathlib.Core.Path.{_≡_, refl, sym, ap, _∙_}
 use borrow.Author.Needs.{needs}
 use lib.ListN.{length, drop, drop-of-length-le}
-use Rattle.entries.specs.declared.Place.the-variants.{Kind}
-use Rattle.entries.specs.Entries.{next, walk}
+use Rattle.entries_next.specs.declared.Place.the-variants.{Kind}
+use Rattle.entries_next.specs.Next.{next}
+use Rattle.entries.specs.Entries.{walk}
 use Rattle.entries.specs.Laws.{walk-at}
 use Rattle.entries.proofs.walk.Statement.{statement}
 use Rattle.entries.proofs.walk.Tie as tie

@@ -5,10 +5,10 @@ use mathlib.Core.List.{List}
 use native.Mathlib.Omega.{arith}
 use borrow.Author.Needs.{needs}
 use borrow.Author.Tests.{lt-ltb, le-ltb}
-use Rattle.image.specs.Image.{addresses, entryAt, ending}
-use Rattle.image.specs.Parts.{parts-bound, part-begins}
+use Rattle.directory.specs.Directory.{addresses, entryAt, ending}
+use Rattle.image.specs.PartsLaws.{parts-bound, part-begins}
 use Rattle.image.specs.Walk.{Reached}
-use Rattle.image.specs.declared.Region.{Region}
+use Rattle.directory.specs.declared.Region.{Region}
 use Rattle.image.specs.declared.Reach.{Reach}
 use Rattle.image.proofs.part.Statement.{statement}
 use Rattle.image.proofs.part.Tie as tie

@@ -5,8 +5,8 @@ use native.Mathlib.Nat.{div-le-self, div-eq-of-lt}
 use native.Mathlib.Omega.{arith}
 use borrow.Author.Needs.{needs}
 use Rattle.image.specs.Image.{parts}
-use Rattle.image.specs.Parts.{parts-down}
-use Rattle.image.specs.declared.Region.{Region}
+use Rattle.image.specs.PartsLaws.{parts-down}
+use Rattle.directory.specs.declared.Region.{Region}
 use Rattle.image.proofs.parts.Statement.{statement}
 use Rattle.image.proofs.parts.Tie as tie
 

@@ -3,7 +3,7 @@ use Prim.Native.Nat.{ℕ, _+_, _-_}
 use mathlib.Core.Path.{_≡_}
 use native.Mathlib.Omega.{arith}
 use borrow.Author.Needs.{needs}
-use Rattle.image.specs.Image.{entryOf}
+use Rattle.directory.specs.Directory.{entryOf}
 use Rattle.image.proofs.read_entry.Statement.{statement}
 use Rattle.image.proofs.read_entry.Tie as tie
 

@@ -4,9 +4,10 @@ use mathlib.Core.Path.{_≡_, refl, sym, _∙_}
 use native.Mathlib.Omega.{arith}
 use borrow.Author.Needs.{needs}
 use borrow.Author.Tests.{ne-eqb}
-use Rattle.image.specs.Image.{addresses, entries, parts}
-use Rattle.image.specs.Laws.{Fit, fit}
-use Rattle.image.specs.Parts.{parts-bound}
+use Rattle.directory.specs.Directory.{addresses, entries}
+use Rattle.image.specs.Image.{parts}
+use Rattle.directory.specs.Laws.{Fit, fit}
+use Rattle.image.specs.PartsLaws.{parts-bound}
 use Rattle.image.proofs.walk.Statement.{statement}
 use Rattle.image.proofs.walk.Tie as tie
 mod Turns

@@ -8,14 +8,15 @@ use Rattle.octets.specs.declared.Written.{Written}
 use Rattle.octets.specs.Lay.{refused}
 use Rattle.message.specs.declared.Fields.{Fields}
 use Rattle.message.specs.Read.{fields}
-use Rattle.image.specs.Image.{addresses}
+use Rattle.directory.specs.Directory.{addresses}
 use Rattle.step.specs.Step.{Act, gives, Leaves}
 use Rattle.step.specs.Laws.{frame-call-refused, frame-refused, frame-accepted}
 use Rattle.load_next.specs.declared.Settings.{Settings}
 use Rattle.load_next.specs.declared.Session.{Session}
 use Rattle.load_next.specs.declared.Next.{Next}
 use Rattle.load_next.specs.Next.{react}
-use Rattle.load_next.specs.Laws.{ahead, Bound, react-bound}
+use Rattle.load_next.specs.Laws.{Bound, react-bound}
+use Rattle.load_next.specs.Inner.{ahead}
 use Rattle.load.specs.declared.Ruling.{Ruling}
 use Rattle.load.specs.Load.{frames, refusal, does, loadFrame}
 use Rattle.load.specs.Inner.{acting, Ruled}

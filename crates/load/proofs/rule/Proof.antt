@@ -8,8 +8,9 @@ use lib.ListN.{length}
 use borrow.Author.Needs.{needs}
 use borrow.Author.Tests.{le-leb, lt-leb, eq-eqb, ne-eqb, not-true, not-false}
 use Rattle.image.specs.declared.Tally.{Tally}
-use Rattle.image.specs.Image.{addresses, surveyed}
-use Rattle.image.specs.Image.{refusal as imageRefusal}
+use Rattle.directory.specs.Directory.{addresses}
+use Rattle.image.specs.Image.{surveyed}
+use Rattle.directory.specs.Directory.{refusal as imageRefusal}
 use Rattle.image.specs.Laws.{agrees, survey-refusal, many-range}
 use Rattle.step.specs.Step.{first}
 use Rattle.load_next.specs.declared.Settings.{Settings}

@@ -11,7 +11,7 @@ use Rattle.octets.specs.declared.Written.{Written}
 use Rattle.octets.specs.Lay.{Came}
 use Rattle.message.specs.Message.{Message, memoryLoadTransfer, memoryLoad}
 use Rattle.message.specs.Write.{write, sent}
-use Rattle.image.specs.Parts.{length-bytes}
+use Rattle.image.specs.PartsLaws.{length-bytes}
 use Rattle.step.specs.Laws.{sent-by}
 use Rattle.load.specs.declared.Ruling.{Ruling}
 use Rattle.load.specs.Load.{numbered}

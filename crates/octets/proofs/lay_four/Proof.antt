@@ -1,7 +1,7 @@
 use borrow.Author.Needs.{needs}
 use mathlib.Core.List.{_++_}
 use native.Mathlib.Omega.{arith}
-use Rattle.octets.specs.Lay.{length-joined, laid-over, laid-short, laid-four}
+use Rattle.octets.specs.LayLaws.{length-joined, laid-over, laid-short, laid-four}
 use Rattle.octets.proofs.lay_four.Statement.{statement}
 use Rattle.octets.proofs.lay_four.Tie as tie
 

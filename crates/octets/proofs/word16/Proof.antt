@@ -1,7 +1,8 @@
 use borrow.Author.Needs.{needs}
 use native.Mathlib.Omega.{arith}
 use lib.ListN.{drop-of-length-le}
-use Rattle.octets.specs.Number.{number, number-two}
+use Rattle.octets.specs.Number.{number}
+use Rattle.octets.specs.NumberLaws.{number-two}
 use Rattle.octets.proofs.word16.Statement.{statement}
 use Rattle.octets.proofs.word16.Tie as tie
 

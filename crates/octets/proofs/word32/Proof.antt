@@ -1,7 +1,8 @@
 use borrow.Author.Needs.{needs}
 use native.Mathlib.Omega.{arith}
 use lib.ListN.{drop-of-length-le}
-use Rattle.octets.specs.Number.{number, number-four}
+use Rattle.octets.specs.Number.{number}
+use Rattle.octets.specs.NumberLaws.{number-four}
 use Rattle.octets.proofs.word32.Statement.{statement}
 use Rattle.octets.proofs.word32.Tie as tie
 

@@ -1,35 +1,34 @@
 use borrow.Author.Needs.{needs}
 use borrow.Author.Tests.{ne-eqb}
-use Rattle.message.specs.Message.{least, leastIn}
-use Rattle.message.specs.Read.{byCode}
+use Rattle.message.specs.Read.{find}
 use Rattle.reader.proofs.by_code.Statement.{statement}
 use Rattle.reader.proofs.by_code.Tie as tie
 
 memory-load-transfer-requires : tie.Need-memory-load-transfer-requires
-unfolding least leastIn
+unfolding find
 memory-load-transfer-requires c κs = rw (c .match .keys1) at (c .before .before .pre)
 
 memory-load-requires : tie.Need-memory-load-requires
-unfolding least leastIn
+unfolding find
 memory-load-requires c κs = rw (c .match .keys2) at (c .before .before .pre)
 
 request-program-requires : tie.Need-request-program-requires
-unfolding least leastIn
+unfolding find
 request-program-requires c κs = rw (c .match .keys3) at (c .before .before .pre)
 
 request-load-requires : tie.Need-request-load-requires
-unfolding least leastIn
+unfolding find
 request-load-requires c κs = rw (c .match .keys4) at (c .before .before .pre)
 
 request-dump-requires : tie.Need-request-dump-requires
 request-dump-requires c κs = search needs
 
 request-dump-service-requires : tie.Need-request-dump-service-requires
-unfolding least leastIn
+unfolding find
 request-dump-service-requires c κs = rw (c .match .keys6) at (c .before .before .pre)
 
 dump-data-requires : tie.Need-dump-data-requires
-unfolding least leastIn
+unfolding find
 dump-data-requires c κs = rw (c .match .keys7) at (c .before .before .pre)
 
 of-code-requires : tie.Need-of-code-requires
@@ -39,70 +38,70 @@ of-code-requires-2 : tie.Need-of-code-requires-2
 of-code-requires-2 c κs = search needs
 
 parameters-requires : tie.Need-parameters-requires
-unfolding least leastIn
+unfolding find
 parameters-requires c κs = rw (c .match .keys10) at (c .before .before .pre)
 
 looping-requires : tie.Need-looping-requires
-unfolding least leastIn
+unfolding find
 looping-requires c κs = rw (c .match .keys11) at (c .before .before .pre)
 
 looping-requires-2 : tie.Need-looping-requires-2
-unfolding least leastIn
+unfolding find
 looping-requires-2 c κs = rw (c .match .keys12) at (c .before .before .pre)
 
 refused-requires : tie.Need-refused-requires
 refused-requires c κs = search needs
 
 returns : tie.Need-returns
-unfolding byCode
+unfolding find
 returns c = rw (c .before .match .keys1) (c .memory-load-transfer .ensures)
 
 returns-2 : tie.Need-returns-2
-unfolding byCode
+unfolding find
 returns-2 c = rw (c .before .match .keys2) (c .memory-load .ensures)
 
 returns-3 : tie.Need-returns-3
-unfolding byCode
+unfolding find
 returns-3 c = rw (c .before .match .keys3) (c .request-program .ensures)
 
 returns-4 : tie.Need-returns-4
-unfolding byCode
+unfolding find
 returns-4 c = rw (c .before .match .keys4) (c .request-load .ensures)
 
 returns-5 : tie.Need-returns-5
-unfolding byCode
+unfolding find
 returns-5 c = rw (c .before .match .keys5) (c .request-dump .ensures)
 
 returns-6 : tie.Need-returns-6
-unfolding byCode
+unfolding find
 returns-6 c = rw (c .before .match .keys6) (c .request-dump-service .ensures)
 
 returns-7 : tie.Need-returns-7
-unfolding byCode
+unfolding find
 returns-7 c = rw (c .before .match .keys7) (c .dump-data .ensures)
 
 returns-8 : tie.Need-returns-8
-unfolding byCode
+unfolding find
 returns-8 c = rw (c .before .match .keys8) (c .of-code .ensures)
 
 returns-9 : tie.Need-returns-9
-unfolding byCode
+unfolding find
 returns-9 c = rw (c .before .match .keys9) (c .of-code2 .ensures)
 
 returns-10 : tie.Need-returns-10
-unfolding byCode
+unfolding find
 returns-10 c = rw (c .before .match .keys10) (c .parameters .ensures)
 
 returns-11 : tie.Need-returns-11
-unfolding byCode
+unfolding find
 returns-11 c = rw (c .before .match .keys11) (c .looping .ensures)
 
 returns-12 : tie.Need-returns-12
-unfolding byCode
+unfolding find
 returns-12 c = rw (c .before .match .keys12) (c .looping2 .ensures)
 
 returns-13 : tie.Need-returns-13
-unfolding byCode
+unfolding find
 returns-13 c =
     let r = c .before .match .rest in
     simp (ne-eqb _ _ (r .0 .0 .0 .0 .0 .0 .0 .0 .0 .0 .0 .1), ne-eqb _ _ (r .0 .0 .0 .0 .0 .0 .0 .0 .0 .0 .1), ne-eqb _ _ (r .0 .0 .0 .0 .0 .0 .0 .0 .0 .1), ne-eqb _ _ (r .0 .0 .0 .0 .0 .0 .0 .0 .1), ne-eqb _ _ (r .0 .0 .0 .0 .0 .0 .0 .1), ne-eqb _ _ (r .0 .0 .0 .0 .0 .0 .1), ne-eqb _ _ (r .0 .0 .0 .0 .0 .1), ne-eqb _ _ (r .0 .0 .0 .0 .1), ne-eqb _ _ (r .0 .0 .0 .1), ne-eqb _ _ (r .0 .0 .1), ne-eqb _ _ (r .0 .1), ne-eqb _ _ (r .1)) (c .refused .ensures)

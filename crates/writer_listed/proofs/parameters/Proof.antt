@@ -6,7 +6,7 @@ use mathlib.Core.List.{List, [], _∷_, _++_}
 use lib.ListN.{getD}
 use borrow.Author.Tests.{not-true, not-false}
 use Rattle.octets.specs.Number.{low}
-use Rattle.entries.specs.declared.Place.the-variants.{Kind}
+use Rattle.entries_next.specs.declared.Place.the-variants.{Kind}
 use Rattle.entries.specs.Entries.{walk}
 use Rattle.message.specs.Message.{parameters}
 use Rattle.message.specs.Write.{layout, whole, write}
@@ -64,7 +64,7 @@ returns-2 c =
     let f : List ℕ = 20 ∷ a .number ∷ (a .entries .now ++ (0 ∷ getD t 0 0 ∷ getD t 1 0 ∷ getD t 2 0 ∷ getD t 3 0 ∷ [])) in
     let e : f ≡ layout m = rw (went .low32 .ensures) in
     let all : whole (walk Kind (a .entries .now)) ≡ true = sym (went .before .before .whole .ensures ∙ ap whole (went .before .before .before .walk .ensures)) ∙ not-false _ (went .before .if1 .left) in
-    wrote m (a .out .now) f (c .before .before .lay-three .ensures) e all
+    wrote m (a .out .now) f (c .before .before .lay-three .ensures) e (rw all)
 
 pub parameters-spec : {M : Type 1} → statement M
 parameters-spec =

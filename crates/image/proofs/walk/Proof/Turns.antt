@@ -8,12 +8,14 @@ use native.Mathlib.Omega.{arith}
 use lib.ListN.{length}
 use lib.Dec.{leb, ltb}
 use borrow.Author.Tests.{ltb-true, ltb-false, leb-true, leb-false, lt-ltb, le-ltb, le-leb, lt-leb, eq-eqb, ne-eqb}
-use Rattle.octets.specs.Cases.{by-cases}
-use Rattle.image.specs.Image.{addresses, entryAt, entries, ending, demand, entryRefusal, entriesRefusal, parts, cut, many, segment, tallied}
-use Rattle.image.specs.Laws.{fit, entries-cons, segment-here, segment-beyond}
+use Rattle.octets.specs.TestLaws.{by-cases}
+use Rattle.directory.specs.Directory.{addresses, entryAt, entries, ending, demand, entryRefusal, entriesRefusal}
+use Rattle.image.specs.Image.{parts, cut, many, segment, tallied}
+use Rattle.directory.specs.Laws.{fit, entries-cons}
+use Rattle.image.specs.Laws.{segment-here, segment-beyond}
 use Rattle.image.specs.Walk.{Reached, region, reaching, partOf}
-use Rattle.image.specs.declared.Trailer.{Trailer}
-use Rattle.image.specs.declared.Region.{Region}
+use Rattle.directory.specs.declared.Trailer.{Trailer}
+use Rattle.directory.specs.declared.Region.{Region}
 use Rattle.image.specs.declared.Reach.{Reach}
 
 -- `end` is the end of the last region passed, m the number of segments passed, and x tells segment i if i is below m

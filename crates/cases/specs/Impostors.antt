@@ -1,0 +1,144 @@
+-- Impostors at either end (paper 01), in the link: ends that are ours but for one thing. After one short list of events the claim of demand 3 is
+-- false of each, so no proof of it could be had. Image, settings and memory are those of the worked examples.
+use Prim.Native.Nat.{ℕ}
+use mathlib.Core.Path.{refl, ap}
+use mathlib.Core.Bool.{Bool, cond as pick}
+use mathlib.Core.List.{List, [], _∷_, _++_}
+use native.Mathlib.Omega.{arith}
+use lib.ListN.{length, take, getD, replicate}
+use lib.Dec.{eqb}
+use Rattle.octets.specs.Number.{number, low}
+use Rattle.octets.specs.Lay.{over}
+use Rattle.memory.specs.Memory.{fits, bytesFrom}
+use Rattle.message.specs.Message.{least, leastIn, dumpData}
+use Rattle.message.specs.Read.{byCode, fields, part}
+use Rattle.message.specs.Write.{layout}
+use Rattle.step.specs.Step.{first, sends}
+use Rattle.directory.specs.Directory.{trailerOf, entryOf, entries, demand, entriesRefusal}
+use Rattle.image.specs.Image.{many, segment}
+use Rattle.machine_next.specs.Next.{byNumber, onLoad}
+use Rattle.load_next.specs.declared.Session.{Session}
+use Rattle.load.specs.Load.{raised}
+use Rattle.link.specs.Link.{Frame, Turn, refuses, acts, queued, Ends, World, Event, own, handToMachine, handToHost, withToHost, run}
+use Rattle.link.specs.MachineEnd.{End, machineEnd}
+use Rattle.link_load.specs.Model as load
+use Rattle.link_load.specs.Model.{loadEnds, laidOver}
+use Rattle.link_load.specs.Report.{Report}
+use Rattle.link_dump.specs.Model as dump
+use Rattle.link_dump.specs.Model.{Host, hostEnd, dumpEnds, Dumped}
+use Rattle.cases.specs.LoadExample as loaded
+use Rattle.cases.specs.DumpExample as dumped
+
+abbrev reply : List ℕ
+reply = replicate 1500 0
+
+-- the first frame, two to the machine and the replies; its first three events are up to the first reply
+abbrev whole : List (Event ⊥)
+whole = own (handToHost reply) ∷ own (handToMachine reply) ∷ own (handToHost reply) ∷ own (handToMachine reply) ∷ own (handToHost reply) ∷ []
+
+-- ---- a load: segment 0 is 0A0B at 2, segment 1 is 0C at 4
+abbrev ours : Ends Session End ⊥
+ours = loadEnds loaded.loadSettings loaded.machineSettings loaded.image
+
+-- our ends, but for what one of them makes of a frame
+abbrev withHost : (Session → Frame → List ℕ → Turn Session) → Ends Session End ⊥
+withHost frame =
+    record { hostFrame = frame; hostTimer = ours .hostTimer; machineFrame = ours .machineFrame; machineTimer = ours .machineTimer; further = ours .further }
+
+abbrev withMachine : (End → Frame → List ℕ → Turn End) → Ends Session End ⊥
+withMachine frame =
+    record { hostFrame = ours .hostFrame; hostTimer = ours .hostTimer; machineFrame = frame; machineTimer = ours .machineTimer; further = ours .further }
+
+-- the claim, after a list of events from fresh ends with so many bytes of memory
+abbrev Claim : Ends Session End ⊥ → ℕ → List (Event ⊥) → Type 0
+Claim ends n es =
+    Report loaded.loadSettings loaded.image (replicate n 0) (run ends (load.freshWorld loaded.machineSettings (replicate n 0)) es)
+
+-- A machine that stores segment 0 and merely acknowledges the others: it leaves memory as it was.
+abbrev leaves : List ℕ → Turn End → Turn End
+leaves old refuses = refuses
+leaves old (acts e out) = acts (machineEnd (e .machine) old) out
+
+abbrev acknowledges : Ends Session End ⊥
+acknowledges = withMachine (λ e f b. pick (eqb (fields f .number) 0) (ours .machineFrame e f b) (leaves (e .memory) (ours .machineFrame e f b)))
+
+pub acknowledges-only : Claim acknowledges 8 whole → ⊥
+unfolding run laidOver loaded.image number low least leastIn byCode fields layout first trailerOf entryOf entries demand entriesRefusal many segment fits byNumber onLoad
+acknowledges-only r = let z = ap (λ (m : List ℕ). getD m 4 0) (r .finished refl .memory-is) in omega arith
+
+-- A machine that clips: it works as if memory were longer, and what is beyond memory's end is lost. Segment 1 is beyond 4 bytes.
+abbrev clipped : ℕ → Turn End → Turn End
+clipped n refuses = refuses
+clipped n (acts e out) = acts (machineEnd (e .machine) (take n (e .memory))) out
+
+abbrev clips : Ends Session End ⊥
+clips = withMachine (λ e f b. clipped (length (e .memory)) (ours .machineFrame (machineEnd (e .machine) (e .memory ++ replicate 8 0)) f b))
+
+pub clips-beyond : Claim clips 4 whole → ⊥
+unfolding run loaded.image number low least leastIn byCode fields layout first trailerOf entryOf entries demand entriesRefusal many segment fits byNumber onLoad
+clips-beyond r = let z = ap {B = ℕ} (λ (b : Bool). pick b 1 0) (r .finished refl .fitting 1 (omega arith)) in omega arith
+
+-- A host that says finished on the first reply.
+abbrev finished : Turn Session → Turn Session
+finished refuses = refuses
+finished (acts h out) = acts (record { position = 2; sent = h .sent; repeats = 0; waiting = 0; verdict = 1 }) out
+
+abbrev hasty : Ends Session End ⊥
+hasty = withHost (λ h f b. pick (eqb (fields f .code) 10) (finished (ours .hostFrame h f b)) (ours .hostFrame h f b))
+
+pub finished-on-first : Claim hasty 8 (take 3 whole) → ⊥
+unfolding run laidOver loaded.image number low least leastIn byCode fields layout first trailerOf entryOf entries demand entriesRefusal many segment fits byNumber onLoad
+finished-on-first r = let z = ap (λ (m : List ℕ). getD m 4 0) (r .finished refl .memory-is) in omega arith
+
+-- A host that invents its count: one more than it sends.
+abbrev more : Turn Session → Turn Session
+more refuses = refuses
+more (acts h out) = acts (raised h) out
+
+abbrev inventive : Ends Session End ⊥
+inventive = withHost (λ h f b. more (ours .hostFrame h f b))
+
+pub invented-count : Claim inventive 8 (take 1 whole) → ⊥
+unfolding run loaded.image number low least leastIn byCode fields layout first trailerOf entryOf entries demand entriesRefusal many segment
+invented-count r = let z = r .counted in omega arith
+
+-- ---- a dump of 3 bytes from address 1 of the memory 7, 8, 9, at most 2 at a time, into the buffer 5, 5, 5
+abbrev memory : List ℕ
+memory = 7 ∷ 8 ∷ 9 ∷ []
+
+abbrev buffer : List ℕ
+buffer = 5 ∷ 5 ∷ 5 ∷ []
+
+abbrev ourDump : Ends Host End ⊥
+ourDump = dumpEnds dumped.s dumped.ms
+
+-- A host that lays each reply from the buffer's start on, not from the reached place on.
+abbrev misplaced : Host → Frame → Turn Host → Turn Host
+misplaced old f refuses = refuses
+misplaced old f (acts h out) =
+    acts (hostEnd (h .session) (pick (eqb (h .session .replies) (old .session .replies)) (h .buffer) (over (part f (fields f)) 0 (old .buffer)))) out
+
+abbrev fromStart : Ends Host End ⊥
+fromStart =
+    record {
+      hostFrame = λ h f b. misplaced h f (ourDump .hostFrame h f b);
+      hostTimer = ourDump .hostTimer;
+      machineFrame = ourDump .machineFrame;
+      machineTimer = ourDump .machineTimer;
+      further = ourDump .further;
+    }
+
+pub wrong-place : Dumped dumped.s memory buffer (run fromStart (dump.freshWorld dumped.ms memory buffer) whole) → ⊥
+unfolding run byCode fields least leastIn layout low number first bytesFrom
+wrong-place d = let z = ap (λ (b : List ℕ). getD b 0 0) (d .buffer-is) in omega arith
+
+-- ---- the line
+-- Between our own ends the claim is false as well if the line brings the host a reply that the machine did not send: here the byte 66.
+abbrev forged : World Host End
+forged =
+    let w : World Host End = dump.freshWorld dumped.ms memory buffer in
+    withToHost w (w .toHost ++ queued (sends (dumpData 1 (66 ∷ []))))
+
+pub forged-reply : Dumped dumped.s memory buffer (run ourDump forged (own (handToHost reply) ∷ own (handToHost reply) ∷ [])) → ⊥
+unfolding run byCode fields least leastIn layout low number first bytesFrom
+forged-reply d = let z = ap (λ (b : List ℕ). getD b 0 0) (d .buffer-is) in omega arith

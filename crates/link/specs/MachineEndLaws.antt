@@ -1,0 +1,56 @@
+-- What the calls of the machine come to on the link.
+use Prim.Native.Nat.{ℕ, _≤_}
+use mathlib.Core.Path.{_≡_, _∙_}
+use mathlib.Core.List.{List, [], _∷_}
+use lib.ListN.{length}
+use borrow.Author.Tests.{le-leb}
+use Rattle.octets.specs.declared.Written.{Written}
+use Rattle.message.specs.declared.Fields.{Fields}
+use Rattle.message.specs.Read.{fields}
+use Rattle.step.specs.Step.{Act, first, Leaves}
+use Rattle.machine_next.specs.declared.Machine.{Machine}
+use Rattle.machine_next.specs.declared.Settings.{Settings}
+use Rattle.machine_next.specs.Next.{refusal, react, onTimer}
+use Rattle.machine_timer.specs.Timer.{machineTimer}
+use Rattle.machine.specs.Machine.{machineFrame}
+use Rattle.link.specs.Link.{Frame, Turn, refuses, acts, turn, queued}
+use Rattle.link.specs.CallLaws as call
+use Rattle.link.specs.CallLaws.{called}
+use Rattle.link.specs.MachineEnd.{End, machineEnd, machineTurned}
+
+-- what it does
+abbrev pub MachineAct : Type 0
+MachineAct = Act Machine (List ℕ)
+
+-- what a call comes to
+abbrev pub Becomes : Turn End → MachineAct → Type 0
+Becomes = call.Becomes machineEnd
+
+module _ (ms : Settings) (m : Machine) (memory b : List ℕ) where
+  pub on-frame : (f : Frame) → Becomes (machineTurned (machineFrame ms m f memory b)) (react ms m (fields f) f memory)
+  on-frame f = called machineEnd (first (refusal ms m (length memory) (length b) ∷ fields f .refusal ∷ [])) m memory b (react ms m (fields f) f memory)
+
+  pub on-timer : Becomes (machineTurned (machineTimer ms m memory b)) (onTimer ms m memory)
+  on-timer = called machineEnd (refusal ms m (length memory) (length b)) m memory b (onTimer ms m memory)
+
+  pub frame-unrefused : (f : Frame) → refusal ms m (length memory) (length b) ≡ 0 → fields f .refusal ≡ 0 → machineTurned (machineFrame ms m f memory b) ≡ refuses → ⊥
+  frame-unrefused f r e =
+      call.frame-unrefused machineEnd (refusal ms m (length memory) (length b)) f m memory b (λ (x : Fields). react ms m x f memory) r e
+
+  pub timer-unrefused : refusal ms m (length memory) (length b) ≡ 0 → machineTurned (machineTimer ms m memory b) ≡ refuses → ⊥
+  timer-unrefused r = call.unrefused machineEnd (refusal ms m (length memory) (length b)) m memory b (onTimer ms m memory) r
+
+-- what one machine is not refused with 1,500 bytes is refused to none with as many
+pub as-accepted : (ms : Settings) (m m′ : Machine) (size room : ℕ) → m .state ≤ 4 → m′ .state ≤ 4 → 1500 ≤ room
+    → refusal ms m size 1500 ≡ 0 → refusal ms m′ size room ≡ 0
+unfolding first
+as-accepted ms m m′ size room h h′ l e =
+    let same : refusal ms m′ size room ≡ refusal ms m size 1500 = rw (le-leb (m .state) 4 h, le-leb (m′ .state) 4 h′, le-leb 1500 room l) in
+    same ∙ e
+
+-- what a machine's start call leaves that is not refused: that machine and its memory, and the frame that a timer gives
+pub starts : (ms : Settings) (m m′ : Machine) (memory memory′ reply reply′ : List ℕ) (answer : Written) → refusal ms m (length memory) (length reply) ≡ 0
+    → Leaves (machineTimer ms m memory reply) m′ answer memory′ reply′
+    → turn (machineEnd m′ memory′) answer reply′ ≡ acts (machineEnd m memory) (queued (onTimer ms m memory .sending))
+starts ms m m′ memory memory′ reply reply′ answer r l =
+    rw (l .0, l .1, l .2, l .3) (call.told-as machineEnd (refusal ms m (length memory) (length reply)) m memory reply (onTimer ms m memory) r)

@@ -1,0 +1,79 @@
+-- What holds of the host's record of a load alone, against any frames whatever: no machine, no queue.
+use Prim.Native.Nat.{ℕ, _+_, _*_, _≤_, _<_}
+use mathlib.Core.Path.{_≡_, refl}
+use mathlib.Core.Bool.{Bool, true, false}
+use mathlib.Core.List.{List}
+use native.Mathlib.Omega.{arith}
+use native.Mathlib.Nat.{add-mul, mul-le-mul-right}
+use lib.Dec.{eqb}
+use borrow.Author.Tests.{eqb-true, eqb-false}
+use Rattle.load_next.specs.declared.Session.{Session}
+use Rattle.link.specs.Link.{Frame, Turn, Ends}
+use Rattle.link.specs.LinkLaws.{Closed}
+use Rattle.link.specs.AloneLaws.{Keeps, Alone, alone}
+use Rattle.link_load.specs.HostLaws.{Now, Sending, Heard, refused, ignored, begins, advances, finishes, rejects, Timed, repeats, givesUp, unconfirmed}
+
+-- N frames, each repeated at most R times; the flag w, position c, k repeats, verdict v, t frames sent.
+pub record Numbers (N R w c k v t : ℕ) : Type 0 where
+  pub flag : w ≤ 1
+  pub verdict : v ≤ 4
+  pub repeats : k ≤ R
+  pub waiting : w ≡ 1 → (c ≡ 0) × (k ≡ 0) × (v ≡ 0) × (t ≡ 0)
+  pub finished : v ≡ 1 → (c ≡ N) × (k ≡ 0) × (N ≤ t) × (t ≤ N * (R + 1))
+  pub otherwise : (v ≡ 1 → ⊥) → (c < N) × (t ≤ c * (R + 1) + 1 + k)
+  pub least : (v ≡ 1 → ⊥) → w ≡ 0 → c + 1 + k ≤ t
+  pub given-up : v ≡ 3 → (c + 1 < N) × (k ≡ R)
+  pub unconfirmed : v ≡ 4 → (c + 1 ≡ N) × (k ≡ R)
+
+abbrev pub Good : ℕ → ℕ → Session → Type 0
+Good N R h = Numbers N R (h .waiting) (h .position) (h .repeats) (h .verdict) (h .sent)
+
+module _ (N R : ℕ) (some : 1 ≤ N) (F : ℕ → Frame) where
+  abbrev pub Kept : Session → Turn Session → Type 0
+  Kept = Keeps (Good N R) (λ h. h .sent)
+
+  good : {w c k v t : ℕ} (x : Session) → Now x w c k v t → Numbers N R w c k v t → Good N R x
+  good x n g = rw (n .waiting, n .position, n .repeats, n .verdict, n .sent) g
+
+  -- what holds of a record whose frame is on its way; and what one position more counts
+  on-way : (h : Session) → Good N R h → Sending h
+      → (h .position < N) × (h .repeats ≤ R) × (h .position + 1 + h .repeats ≤ h .sent) × (h .sent ≤ h .position * (R + 1) + 1 + h .repeats)
+      × ((h .position + 1) * (R + 1) ≡ h .position * (R + 1) + (R + 1))
+  on-way h g w =
+      let unfinished : h .verdict ≡ 1 → ⊥ = λ q. omega (arith, w .1) in
+      (g .otherwise unfinished .0, g .repeats, g .least unfinished (w .0), g .otherwise unfinished .1, rw (add-mul (h .position) 1 (R + 1)) (omega arith))
+
+  pub on-heard : (h : Session) (f : Frame) (t : Turn Session) → Good N R h → Heard N R F h f t → Kept h t
+  on-heard h f t g refused = tt
+  on-heard h f t g (ignored x n) = (good x n g, omega arith)
+  on-heard h f t g (begins x w v n) = let z = g .waiting w in (good x n (omega arith), omega arith)
+  on-heard h f t g (advances x w a l n) = let z = on-way h g w in (good x n (omega arith), omega arith)
+  on-heard h f t g (finishes x w a l n) =
+      let z = on-way h g w in
+      let all : h .position + 1 ≡ N = omega arith in
+      let m : N * (R + 1) ≡ h .position * (R + 1) + (R + 1) = rw (← all) (z .4) in
+      (good x n (omega arith), omega arith)
+  on-heard h f t g (rejects x e w a r n) = let z = on-way h g w in (good x n (omega arith), omega arith)
+
+  pub on-timed : (h : Session) (t : Turn Session) → Good N R h → Timed N R F h t → Kept h t
+  on-timed h t g refused = tt
+  on-timed h t g (ignored x n) = (good x n g, omega arith)
+  on-timed h t g (repeats x w r n) = let z = on-way h g w in (good x n (omega arith), omega arith)
+  on-timed h t g (givesUp x w r l n) = let z = on-way h g w in (good x n (omega arith), omega arith)
+  on-timed h t g (unconfirmed x w r l n) = let z = on-way h g w in (good x n (omega arith), omega arith)
+
+  -- so it is in every run, beside any machine and any further events that leave the host alone
+  pub alone-load : {M X : Type 0} (ends : Ends Session M X) → ((h : Session) (f b : List ℕ) → Heard N R F h f (ends .hostFrame h f b))
+      → ((h : Session) (b : List ℕ) → Timed N R F h (ends .hostTimer h b)) → Closed ends (Alone (Good N R) (λ h. h .sent) ends)
+  alone-load ends heard timed =
+      alone (Good N R) (λ h. h .sent) ends (λ h f b g. on-heard h f _ g (heard h f b)) (λ h b g. on-timed h _ g (timed h b))
+
+-- no record has sent more than N (R + 1) frames
+pub bound : (N R : ℕ) (h : Session) → Good N R h → h .sent ≤ N * (R + 1)
+bound N R h g = go (eqb (h .verdict) 1) refl
+  where
+    go : (d : Bool) → eqb (h .verdict) 1 ≡ d → h .sent ≤ N * (R + 1)
+    go true e = g .finished (eqb-true _ _ e) .3
+    go false e =
+        let z = g .otherwise (eqb-false _ _ e) in
+        omega (arith, g .repeats, mul-le-mul-right (R + 1) (z .0), add-mul (h .position) 1 (R + 1))

@@ -1,0 +1,146 @@
+-- What a call of the host comes to, whatever frame it is handed. Only here do the proofs look into the definitions of a load.
+use Prim.Native.Nat.{ℕ, _+_, _%_, _≤_, _<_}
+use mathlib.Core.Path.{_≡_, refl, ap, sym, _∙_}
+use mathlib.Core.Bool.{Bool, true, false, _&&_, cond as pick}
+use mathlib.Core.List.{List, [], _∷_}
+use native.Mathlib.Omega.{arith}
+use lib.Dec.{eqb, ltb}
+use borrow.Author.Tests.{eqb-true, eqb-false, ltb-true, ltb-false}
+use Rattle.octets.specs.TestLaws.{by-cases, both}
+use Rattle.message.specs.declared.Fields.{Fields}
+use Rattle.message.specs.Message.{requestLoad}
+use Rattle.message.specs.Read.{fields}
+use Rattle.message.specs.Write.{layout}
+use Rattle.message.specs.Laws.{request-load-fields, request-program-fields}
+use Rattle.step.specs.Step.{first}
+use Rattle.machine_next.specs.declared.Settings.{Settings as MachineSettings}
+use Rattle.machine_next.specs.Next.{asksLoad}
+use Rattle.load_next.specs.declared.Session.{Session}
+use Rattle.load_next.specs.declared.Settings.{Settings}
+use Rattle.load_next.specs.declared.Next.{Next}
+use Rattle.load_next.specs.Next as next
+use Rattle.load.specs.Load as load
+use Rattle.link.specs.Link.{Frame, Turn, refuses, acts, queued}
+use Rattle.link.specs.CallLaws.{called, came}
+use Rattle.link_load.specs.Model.{hostEnd, hostTurned}
+
+-- The numbers of a record: waiting, position, repeats, verdict, frames sent.
+pub record Now (h : Session) (w c k v t : ℕ) : Type 0 where
+  pub waiting : h .waiting ≡ w
+  pub position : h .position ≡ c
+  pub repeats : h .repeats ≡ k
+  pub verdict : h .verdict ≡ v
+  pub sent : h .sent ≡ t
+
+-- a record whose frame is on its way
+abbrev pub Sending : Session → Type 0
+Sending h = (h .waiting ≡ 0) × (h .verdict ≡ 0)
+
+-- a frame that is an answer with this number and this error
+abbrev pub Answer : Frame → ℕ → ℕ → Type 0
+Answer f number error = (fields f .code ≡ 10) × (fields f .number ≡ number) × (fields f .error ≡ error)
+
+-- what an answer says; a request is none
+pub answer-says : (n e number error : ℕ) → Answer (layout (requestLoad n e)) number error → (n ≡ number) × (e ≡ error)
+answer-says n e number error a =
+    let r = request-load-fields n e in
+    (sym (ap (λ (f : Fields). f .number) r) ∙ a .1, sym (ap (λ (f : Fields). f .error) r) ∙ a .2)
+
+pub no-answer : (ms : MachineSettings) (number error : ℕ) → Answer (layout (asksLoad ms)) number error → ⊥
+no-answer ms number error a =
+    let code = ap (λ (f : Fields). f .code) (request-program-fields (ms .device) (ms .processor)) in omega (arith, a .0)
+
+-- N frames F, each repeated at most R times
+module _ (N R : ℕ) (F : ℕ → Frame) where
+  -- On a frame: the call is refused; it is ignored; the first frame goes out; the frame on its way is confirmed, and the next goes out or
+  -- there is none; it is rejected.
+  pub data Heard (h : Session) (f : Frame) : Turn Session → Type 0 where
+    refused : Heard h f refuses
+    ignored : (x : Session) → Now x (h .waiting) (h .position) (h .repeats) (h .verdict) (h .sent) → Heard h f (acts x [])
+    begins : (x : Session) → h .waiting ≡ 1 → h .verdict ≡ 0 → Now x 0 0 0 0 (h .sent + 1) → Heard h f (acts x (F 0 ∷ []))
+    advances : (x : Session) → Sending h → Answer f ((h .position + 1) % 256) 0 → h .position + 1 < N → Now x 0 (h .position + 1) 0 0 (h .sent + 1)
+        → Heard h f (acts x (F (h .position + 1) ∷ []))
+    finishes : (x : Session) → Sending h → Answer f ((h .position + 1) % 256) 0 → N ≤ h .position + 1 → Now x 0 N 0 1 (h .sent) → Heard h f (acts x [])
+    rejects : (x : Session) (error : ℕ) → Sending h → Answer f ((h .position + 1) % 256) error → (error ≡ 0 → ⊥) → Now x 0 (h .position) (h .repeats) 2 (h .sent)
+        → Heard h f (acts x [])
+
+  -- On a timer: the call is refused; it is ignored; the frame on its way goes out again; the load is given up, or unconfirmed.
+  pub data Timed (h : Session) : Turn Session → Type 0 where
+    refused : Timed h refuses
+    ignored : (x : Session) → Now x (h .waiting) (h .position) (h .repeats) (h .verdict) (h .sent) → Timed h (acts x [])
+    repeats : (x : Session) → Sending h → h .repeats < R → Now x 0 (h .position) (h .repeats + 1) 0 (h .sent + 1) → Timed h (acts x (F (h .position) ∷ []))
+    givesUp : (x : Session) → Sending h → R ≤ h .repeats → h .position + 1 < N → Now x 0 (h .position) (h .repeats) 3 (h .sent) → Timed h (acts x [])
+    unconfirmed : (x : Session) → Sending h → R ≤ h .repeats → N ≤ h .position + 1 → Now x 0 (h .position) (h .repeats) 4 (h .sent) → Timed h (acts x [])
+
+-- a record's own numbers, with the flag and the verdict as they are known
+now : {w v : ℕ} (x : Session) → x .waiting ≡ w → x .verdict ≡ v → Now x w (x .position) (x .repeats) v (x .sent)
+now x w v = record { waiting = w; position = refl; repeats = refl; verdict = v; sent = refl }
+
+module _ (s : Settings) (file : List ℕ) where
+  abbrev pub N : ℕ
+  N = load.frames file (s .«segment_size»)
+
+  abbrev pub F : ℕ → Frame
+  F i = layout (load.segmentMessage file (s .«segment_size») i)
+
+  module _ (h : Session) where
+    -- what is done next, as the link sees it
+    abbrev does : Next → Turn Session
+    does n = acts (load.counted n) (queued (load.does file (s .«segment_size») n .sending))
+
+    module _ (f : Frame) where
+      abbrev OnFrame : Next → Type 0
+      OnFrame n = Heard N (s .repeats) F h f (does n)
+
+      same : OnFrame (next.ignores h)
+      same = ignored h (now h refl refl)
+
+      on-request : h .verdict ≡ 0 → OnFrame (next.onRequest h (fields f .program))
+      on-request v =
+          by-cases OnFrame (eqb (h .waiting) 1 && eqb (fields f .program) 2)
+          (λ t. begins _ (eqb-true _ _ (both (eqb (h .waiting) 1) (eqb (fields f .program) 2) t .0)) v (now _ refl v)) (λ _. same)
+
+      on-answer : fields f .code ≡ 10 → h .verdict ≡ 0 → OnFrame (next.onAnswer N h (fields f .number) (fields f .error))
+      on-answer c v =
+          by-cases OnFrame (eqb (h .waiting) 0 && eqb (fields f .number) ((h .position + 1) % 256)) (λ t.
+          let z = both (eqb (h .waiting) 0) (eqb (fields f .number) ((h .position + 1) % 256)) t in
+          let w : Sending h = (eqb-true _ _ (z .0), v) in
+          by-cases OnFrame (eqb (fields f .error) 0) (λ q.
+          let right : Answer f ((h .position + 1) % 256) 0 = (c, eqb-true _ _ (z .1), eqb-true _ _ q) in
+          by-cases OnFrame (next.more N h) (λ l. advances _ w right (ltb-true _ _ l) (now _ refl v))
+          (λ l. finishes _ w right (ltb-false _ _ l) (now _ refl refl)))
+          (λ q. rejects _ (fields f .error) w (c, eqb-true _ _ (z .1), refl) (eqb-false _ _ q) (now _ (w .0) refl))) (λ _. same)
+
+      on-fields : OnFrame (next.react N h (fields f))
+      on-fields =
+          by-cases OnFrame (eqb (h .verdict) 0) (λ v.
+          by-cases OnFrame (eqb (fields f .code) 8) (λ _. on-request (eqb-true _ _ v)) (λ _.
+          by-cases OnFrame (eqb (fields f .code) 10) (λ c. on-answer (eqb-true _ _ c) (eqb-true _ _ v)) (λ _. same))) (λ _. same)
+
+      pub heard : (b : List ℕ) → Heard N (s .repeats) F h f (hostTurned (load.loadFrame s h file f b))
+      heard b =
+          came (Heard N (s .repeats) F h f) _ _ _
+          (called hostEnd (first (load.refusal s h file b ∷ fields f .refusal ∷ [])) h tt b (load.does file (s .«segment_size») (next.react N h (fields f)))) refused on-fields
+
+    abbrev OnTimer : Next → Type 0
+    OnTimer n = Timed N (s .repeats) F h (does n)
+
+    idle : OnTimer (next.ignores h)
+    idle = ignored h (now h refl refl)
+
+    ends : Sending h → s .repeats ≤ h .repeats → (more : Bool) → next.more N h ≡ more → OnTimer (next.ends h (pick more 3 4))
+    ends w r true l = givesUp _ w r (ltb-true _ _ l) (now _ (w .0) refl)
+    ends w r false l = unconfirmed _ w r (ltb-false _ _ l) (now _ (w .0) refl)
+
+    on-timer : OnTimer (next.onTimer N (s .repeats) h)
+    on-timer =
+        by-cases OnTimer (eqb (h .verdict) 0) (λ v.
+        by-cases OnTimer (eqb (h .waiting) 0) (λ w.
+        let z : Sending h = (eqb-true _ _ w, eqb-true _ _ v) in
+        by-cases OnTimer (ltb (h .repeats) (s .repeats)) (λ r. repeats _ z (ltb-true _ _ r) (now _ (z .0) (z .1)))
+        (λ r. ends z (ltb-false _ _ r) (next.more N h) refl)) (λ _. idle)) (λ _. idle)
+
+    pub timed : (b : List ℕ) → Timed N (s .repeats) F h (hostTurned (load.loadTimer s h file b))
+    timed b =
+        came (Timed N (s .repeats) F h) _ _ _
+        (called hostEnd (load.refusal s h file b) h tt b (load.does file (s .«segment_size») (next.onTimer N (s .repeats) h))) refused on-timer

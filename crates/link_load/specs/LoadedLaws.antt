@@ -1,0 +1,87 @@
+-- All segments in is the program loaded.
+use Prim.Native.Nat.{ℕ, zero, suc, _+_, _≤_, _<_}
+use mathlib.Core.Path.{_≡_, refl, subst, _∙_}
+use mathlib.Core.List.{List}
+use mathlib.Core.Logic.{⊎-map}
+use native.Mathlib.Omega.{arith}
+use lib.ListN.{length, take, drop, getD}
+use Rattle.memory.specs.Laws.{fits-inside}
+use Rattle.directory.specs.declared.Region.{Region}
+use Rattle.directory.specs.Directory.{trailer, regions, nowhere, bytes, entriesRefusal}
+use Rattle.image.specs.Image.{many, cutRefusal}
+use Rattle.image.specs.Laws.{ready}
+use Rattle.directory.specs.Laws.{region-fit}
+use Rattle.image.specs.PartsLaws.{length-bytes}
+use Rattle.load_next.specs.declared.Settings.{Settings}
+use Rattle.link.specs.MachineEnd.{End}
+use Rattle.link.specs.ByteLaws.{is-there, same-byte}
+use Rattle.link_load.specs.Model.{laidOver, FirstIn}
+use Rattle.link_load.specs.Report.{Loaded}
+use Rattle.link_load.specs.RegionsLaws.{segmentsOver, regionsOver, SegmentsFit, AllFit, all-fit, fits-at, segments-regions, regions-size, inside-region, outside-regions, stretch, there}
+
+module _ (s : Settings) (file old : List ℕ) (ok : cutRefusal file (s .«segment_size») ≡ 0) where
+  over-segments : (k : ℕ) → laidOver file (s .«segment_size») old k ≡ segmentsOver file (s .«segment_size») (regions file) k old
+  unfolding laidOver segmentsOver
+  over-segments zero = refl
+  over-segments (suc k) = rw (over-segments k)
+
+  module _ (e : End) (i : FirstIn file (s .«segment_size») old (many (s .«segment_size») (regions file)) e) where
+    abbrev directory : ℕ
+    directory = trailer file .directory
+
+    some : 1 ≤ s .«segment_size»
+    some = ready file (s .«segment_size») ok .some
+
+    entries : entriesRefusal directory 0 (regions file) ≡ 0
+    entries = ready file (s .«segment_size») ok .fitting
+
+    before : directory ≤ length file
+    before = omega (arith, ready file (s .«segment_size») ok .whole)
+
+    segments-fit : SegmentsFit file (s .«segment_size») (regions file) (length old)
+    segments-fit j l = fits-inside _ _ _ (i .fitting j l)
+
+    all : AllFit file (s .«segment_size») (regions file) (length old)
+    all = all-fit file (s .«segment_size») directory some before 0 (regions file) (length old) entries segments-fit
+
+    memory-is : e .memory ≡ regionsOver file (s .«segment_size») (regions file) old
+    memory-is =
+        i .memory-is ∙ over-segments (many (s .«segment_size») (regions file))
+        ∙ segments-regions file (s .«segment_size») directory some before 0 (regions file) old entries segments-fit
+
+    size : length (e .memory) ≡ length old
+    size = rw memory-is (regions-size file (s .«segment_size») directory some before 0 (regions file) old entries all)
+
+    -- region k of the directory
+    module _ (k : ℕ) (l : k < length (regions file)) where
+      abbrev region : Region
+      region = getD (regions file) k nowhere
+
+      within : (region .place + region .length ≤ length file) × (region .address + region .length ≤ length (e .memory))
+      within =
+          (omega (arith, before, region-fit directory 0 (regions file) k entries l .within), omega (arith, size, fits-at file (s .«segment_size») directory some before (regions file) (length old) k all l))
+
+      held : take (region .length) (drop (region .address) (e .memory)) ≡ bytes file region
+      held =
+          let n = length-bytes file region (within .0) in
+          subst (λ (x : ℕ). take x (drop (region .address) (e .memory)) ≡ bytes file region) n
+          (stretch (e .memory) (bytes file region) (region .address) (omega (arith, n, within .1))
+          (λ x b. rw memory-is (inside-region file (s .«segment_size») directory some before 0 (regions file) old k x entries all l (omega (arith, n)))))
+
+    pub all-in : Loaded file old e
+    all-in =
+        record {
+          size = size;
+          within = λ k r q.
+              let z = there (regions file) k r q in
+              let y : (r .place + r .length ≤ length file) × (r .address + r .length ≤ length (e .memory)) =
+              subst (λ (x : Region). (x .place + x .length ≤ length file) × (x .address + x .length ≤ length (e .memory))) (z .1) (within k (z .0)) in
+              (omega (arith, y .0), omega (arith, y .1));
+          program = λ k r q.
+              let z = there (regions file) k r q in
+              subst (λ (x : Region). take (x .length) (drop (x .address) (e .memory)) ≡ bytes file x) (z .1) (held k (z .0));
+          rest = λ a g.
+              same-byte (e .memory) old a size (rw memory-is (outside-regions file (s .«segment_size») directory some before 0 (regions file) old a entries all
+              (λ k l. ⊎-map (λ x. omega arith) (λ x. omega arith) (g k (getD (regions file) k nowhere) (is-there nowhere (regions file) k l)))));
+          started = i .started refl;
+        }

@@ -1,0 +1,132 @@
+-- Where what every run keeps holds, the record is not bad and every frame on its way is read: with a reply buffer of 1,500 bytes no call is
+-- refused.
+use Prim.Native.Nat.{ℕ, zero, suc, _+_, _*_, _%_, _≤_, _<_}
+use mathlib.Core.Path.{_≡_, refl}
+use mathlib.Core.Bool.{Bool, true, false, not, cond as pick}
+use mathlib.Core.List.{List, _∷_}
+use mathlib.Core.Logic.{⊎-elim}
+use native.Mathlib.Omega.{arith}
+use lib.ListN.{length}
+use lib.Dec.{eqb}
+use borrow.Author.Tests.{eq-eqb, ne-eqb, le-leb, eqb-true, eqb-false}
+use Rattle.octets.specs.Number.{Octets}
+use Rattle.octets.specs.TestLaws.{by-cases}
+use Rattle.message.specs.declared.Fields.{Fields}
+use Rattle.message.specs.Read.{fields}
+use Rattle.message.specs.Write.{layout}
+use Rattle.message.specs.Laws.{request-load-fields, request-program-fields}
+use Rattle.image.specs.Image.{cutRefusal, widest}
+use Rattle.directory.specs.Directory.{demand}
+use Rattle.directory.specs.Directory.{refusal as imageRefusal}
+use Rattle.image.specs.Laws.{ready}
+use Rattle.step.specs.Step.{first}
+use Rattle.machine_next.specs.declared.Machine.{Machine}
+use Rattle.machine_next.specs.declared.Settings.{Settings as MachineSettings}
+use Rattle.machine_next.specs.Next.{requesting}
+use Rattle.machine_next.specs.Next.{after as after-number, refusal as machineRefusal}
+use Rattle.load_next.specs.declared.Session.{Session}
+use Rattle.load_next.specs.declared.Settings.{Settings as LoadSettings}
+use Rattle.load_next.specs.Next as next
+use Rattle.load.specs.Load as load
+use Rattle.link.specs.Link.{Frame, World}
+use Rattle.link.specs.CallLaws as call
+use Rattle.link.specs.NumberedLaws.{first-down, first-up}
+use Rattle.link.specs.Unrefused.{Unrefused}
+use Rattle.link.specs.MachineEnd.{End}
+use Rattle.link.specs.MachineEndLaws.{frame-unrefused, timer-unrefused, as-accepted}
+use Rattle.link_load.specs.Model.{hostEnd, loadEnds}
+use Rattle.link_load.specs.AloneLaws.{Good, bound}
+use Rattle.link_load.specs.FramesLaws.{Frames, machineAt, length-laid, said}
+use Rattle.link_load.specs.ImageLaws.{segment-read}
+use Rattle.link_load.specs.ReportLaws.{fr, load-transfer, Kept}
+
+-- ---- the host's record alone: one with good numbers is none of those that are bad
+module _ (s : LoadSettings) (N : ℕ) (h : Session) (g : Good N (s .repeats) h) where
+  sound : load.sound s h ≡ true
+  sound = rw (le-leb (h .verdict) 4 (g .verdict), le-leb (h .repeats) (s .repeats) (g .repeats), le-leb (h .waiting) 1 (g .flag), blank)
+    where
+      blank : pick (eqb (h .waiting) 1) (load.blank h) true ≡ true
+      blank =
+          by-cases (λ (b : Bool). b ≡ true) (eqb (h .waiting) 1)
+          (λ w. let z = g .waiting (eqb-true _ _ w) in rw (eq-eqb _ _ (z .0), eq-eqb _ _ (z .1), eq-eqb _ _ (z .2), eq-eqb _ _ (z .3))) (λ _. refl)
+
+  consistent : load.consistent N s h ≡ true
+  consistent = rw (le-leb (h .position) N reaches, le-leb (h .sent) (N * (s .repeats + 1)) (bound N (s .repeats) h g), placed)
+    where
+      reaches : h .position ≤ N
+      reaches = at (eqb (h .verdict) 1) refl
+        where
+          at : (d : Bool) → eqb (h .verdict) 1 ≡ d → h .position ≤ N
+          at true v = let z = g .finished (eqb-true _ _ v) in omega arith
+          at false v = let z = g .otherwise (eqb-false _ _ v) in omega arith
+
+      placed : pick (eqb (h .verdict) 1) (eqb (h .position) N) (not (eqb (h .position) N)) ≡ true
+      placed =
+          by-cases (λ (b : Bool). b ≡ true) (eqb (h .verdict) 1) (λ v. eq-eqb (h .position) N (g .finished (eqb-true _ _ v) .0))
+          (λ v. let z = g .otherwise (eqb-false _ _ v) in rw (ne-eqb (h .position) N (omega arith)))
+
+-- so with a reply buffer of 1,500 bytes no call is refused but for its frame
+not-refused : (s : LoadSettings) (file : List ℕ) (h : Session) (reply : List ℕ) → cutRefusal file (s .«segment_size») ≡ 0 → s .repeats ≤ 255
+    → Good (load.frames file (s .«segment_size»)) (s .repeats) h → 1500 ≤ length reply → load.refusal s h file reply ≡ 0
+unfolding first demand
+not-refused s file h reply ok few g l =
+    let r = ready file (s .«segment_size») ok in
+    let low = le-leb 1 (s .«segment_size») (r .some) in
+    let high = le-leb (s .«segment_size») widest (r .narrow) in
+    let whole : imageRefusal file ≡ 0 = rw (low, high) at ok in
+    rw (low, high, le-leb (s .repeats) 255 few, sound s (load.frames file (s .«segment_size»)) h g, le-leb 1500 (length reply) l, whole, consistent s (load.frames file (s .«segment_size»)) h g)
+
+module _
+    (s : LoadSettings) (ms : MachineSettings) (file old : List ℕ) (ok : cutRefusal file (s .«segment_size») ≡ 0) (o : Octets file)
+    (few : s .repeats ≤ 255) (fresh : machineRefusal ms requesting (length old) 1500 ≡ 0) (w : World Session End) (k : Kept s ms file old ok o w) where
+  abbrev t : Frames ms
+  t = fr s ms file old ok o
+
+  host-accepted : (reply : List ℕ) → 1500 ≤ length reply → load.refusal s (w .host) file reply ≡ 0
+  host-accepted reply l = not-refused s file (w .host) reply ok few (k .1 .0) l
+
+  -- the machine's state and memory length stay within their ranges
+  any : (a b : Bool) (x y z : Machine) → x .state ≤ 4 → y .state ≤ 4 → z .state ≤ 4 → pick a (pick b x y) z .state ≤ 4
+  any true true x y z p q r = p
+  any true false x y z p q r = q
+  any false b x y z p q r = r
+
+  state : (m : ℕ) → machineAt t old m .state ≤ 4
+  unfolding machineAt
+  state zero = omega arith
+  state (suc m) = any (t .fit m) (eqb (m + 1) (t .many)) (t .done) _ _ (omega arith) (omega arith) (omega arith)
+
+  machine-accepted : (reply : List ℕ) → 1500 ≤ length reply → machineRefusal ms (w .machine .machine) (length (w .machine .memory)) (length reply) ≡ 0
+  machine-accepted reply l =
+      let i = k .0 in
+      rw (i .2 .end-is, length-laid t old refl (i .0) (i .2 .few))
+      (as-accepted ms requesting (machineAt t old (i .0)) (length old) (length reply) (omega arith) (state (i .0)) l fresh)
+
+  -- every frame that the machine sends is read, and every frame of a segment
+  said-read : (k : ℕ) → fields (layout (said t old k)) .refusal ≡ 0
+  said-read zero = rw (request-program-fields (ms .device) (ms .processor))
+  said-read (suc k) = rw (request-load-fields (after-number (k % 256)) (pick (t .fit k) 0 1))
+
+  host-read : (f : Frame) (q : List Frame) → w .toHost ≡ f ∷ q → fields f .refusal ≡ 0
+  host-read f q e =
+      let x = first-up (load-transfer s ms file old ok o) (loadEnds s ms file) w f q (k .0) e in
+      rw (x .1) (said-read (x .0))
+
+  machine-read : (f : Frame) (q : List Frame) → w .toMachine ≡ f ∷ q → fields f .refusal ≡ 0
+  machine-read f q e =
+      let x = first-down (load-transfer s ms file old ok o) (loadEnds s ms file) w f q (k .0) e in
+      let less : x .0 < t .many = ⊎-elim (λ l. l) (λ p. p .0) (x .2) in
+      rw (x .1) (segment-read (s .«segment_size») ms file (length old) ok o (x .0) less)
+
+  pub unrefused : Unrefused (loadEnds s ms file) w
+  unrefused =
+      record {
+        hostFrame = λ f q b e l.
+            call.frame-unrefused hostEnd (load.refusal s (w .host) file b) f (w .host) tt b
+            (λ (x : Fields). load.does file (s .«segment_size») (next.react (load.frames file (s .«segment_size»)) (w .host) x)) (host-accepted b l) (host-read f q e);
+        hostTimer = λ b l.
+            call.unrefused hostEnd (load.refusal s (w .host) file b) (w .host) tt b
+            (load.does file (s .«segment_size») (next.onTimer (load.frames file (s .«segment_size»)) (s .repeats) (w .host))) (host-accepted b l);
+        machineFrame = λ f q b e l. frame-unrefused ms (w .machine .machine) (w .machine .memory) b f (machine-accepted b l) (machine-read f q e);
+        machineTimer = λ b l. timer-unrefused ms (w .machine .machine) (w .machine .memory) b (machine-accepted b l);
+      }

@@ -1,0 +1,226 @@
+-- Of every step: a caller that sees no refusal, no frame and the same verdict (or state) sees that the step did nothing.
+use Prim.Native.Nat.{ℕ, _+_, _%_, _<_, min}
+use mathlib.Core.Path.{_≡_, refl}
+use mathlib.Core.Bool.{Bool, true, false, _&&_, _||_, cond as pick}
+use mathlib.Core.List.{List, [], _∷_}
+use native.Mathlib.Omega.{arith}
+use native.Mathlib.Nat.{add-zero}
+use lib.ListN.{length}
+use lib.Dec.{eqb, ltb, leb}
+use borrow.Author.Tests.{eqb-true, eqb-false}
+use Rattle.octets.specs.TestLaws.{by-cases}
+use Rattle.message.specs.declared.Fields.{Fields}
+use Rattle.message.specs.Message.{Message, memoryLoadTransfer, memoryLoad, requestLoad, requestDump, dumpData, dumpComplete, loopData, loopedData, requestProgram, requestDumpService}
+use Rattle.message.specs.Read.{fields, part}
+use Rattle.message.specs.Write.{layout}
+use Rattle.memory.specs.Memory.{fits, bytesFrom}
+use Rattle.directory.specs.Directory.{trailer}
+use Rattle.image.specs.Image.{segmentOf}
+use Rattle.step.specs.Step.{Sending, nothing, sends, Act, first, acts, ignores, gives, call}
+use Rattle.machine_next.specs.declared.Settings.{Settings as MachineSettings}
+use Rattle.machine_next.specs.declared.Machine.{Machine}
+use Rattle.machine_next.specs.Next as machine
+use Rattle.machine_timer.specs.Timer.{machineTimer}
+use Rattle.machine.specs.Machine.{machineFrame}
+use Rattle.load_next.specs.declared.Settings.{Settings as LoadSettings}
+use Rattle.load_next.specs.declared.Session.{Session as LoadSession}
+use Rattle.load_next.specs.declared.Next.{Next as LoadNext}
+use Rattle.load_next.specs.Next as load
+use Rattle.load.specs.Load as loads
+use Rattle.load.specs.Load.{loadFrame, loadTimer}
+use Rattle.dump_next.specs.declared.Settings.{Settings as DumpSettings}
+use Rattle.dump_next.specs.declared.Session.{Session as DumpSession}
+use Rattle.dump_next.specs.declared.Next.{Next as DumpNext}
+use Rattle.dump_next.specs.Next as dump
+use Rattle.dump.specs.Dump as dumps
+use Rattle.dump.specs.Dump.{dumpFrame, dumpTimer}
+use Rattle.looptest_next.specs.declared.Settings.{Settings as LoopSettings}
+use Rattle.looptest_next.specs.declared.Session.{Session as LoopSession}
+use Rattle.looptest.specs.Loop as loop
+use Rattle.looptest.specs.Loop.{loopFrame, loopTimer}
+use Rattle.mop_steps.specs.Ignored.{Seen, loadVerdict, dumpVerdict, loopVerdict, machineState}
+
+-- ---- any end
+module _ {H B : Type 0} (mark : H → ℕ) (h : H) (lent : B) (reply : List ℕ) where
+  -- a frame that goes out is seen by its length
+  sent-seen : (end : H) (b : B) (m : Message) → 0 < length (layout m) → Seen mark h lent reply (gives (acts end b (sends m)) reply)
+  sent-seen end b m p _ l _ = absurd (omega arith)
+
+  -- a refused call is no step
+  called : (n : ℕ) (a : Act H B) → Seen mark h lent reply (gives a reply) → Seen mark h lent reply (call n h lent reply a)
+  called n a g = by-cases (Seen mark h lent reply) (eqb n 0) (λ _. g) (λ e z. absurd (eqb-false n 0 e z))
+
+-- ---- the host's load
+module _ (s : LoadSettings) (h : LoadSession) (file reply : List ℕ) where
+  abbrev S : ℕ
+  S = s .«segment_size»
+
+  abbrev N : ℕ
+  N = loads.frames file S
+
+  abbrev P : LoadNext → Type 0
+  P next = Seen loadVerdict h tt reply (gives (loads.does file S next) reply)
+
+  stays : P (load.ignores h)
+  stays _ _ _ = refl
+
+  frame-long : (i : ℕ) → 0 < length (layout (loads.segmentMessage file S i))
+  unfolding layout
+  frame-long i =
+      let p = segmentOf file S i in
+      by-cases (λ (m : Message). 0 < length (layout m)) (eqb (i + 1) N)
+      {x = memoryLoadTransfer (i % 256) (p .address) (p .bytes) (trailer file .transfer)} {y = memoryLoad (i % 256) (p .address) (p .bytes)}
+      (λ _. omega arith) (λ _. omega arith)
+
+  goes : (r : LoadSession) → P (load.goesOut r)
+  goes r = sent-seen loadVerdict h tt reply (loads.raised r) tt (loads.segmentMessage file S (r .position)) (frame-long (r .position))
+
+  ends : (r : LoadSession) (n : ℕ) → eqb (h .verdict) 0 ≡ true → 0 < n → P (load.ends r n)
+  ends r n v p _ _ e = absurd (omega (arith, eqb-true (h .verdict) 0 v))
+
+  pub load-frame-seen : (frame : List ℕ) → Seen loadVerdict h tt reply (loadFrame s h file frame reply)
+  load-frame-seen frame =
+      let f = fields frame in
+      called loadVerdict h tt reply (first (loads.refusal s h file reply ∷ f .refusal ∷ [])) (loads.does file S (load.react N h f))
+      (by-cases P (eqb (h .verdict) 0) (λ v.
+      by-cases P (eqb (f .code) 8) (λ _. by-cases P (eqb (h .waiting) 1 && eqb (f .program) 2) (λ _. goes (load.reached h 0)) (λ _. stays)) (λ _.
+      by-cases P (eqb (f .code) 10) (λ _.
+      by-cases P (eqb (h .waiting) 0 && eqb (f .number) ((h .position + 1) % 256)) (λ _.
+      by-cases P (eqb (f .error) 0) (λ _.
+      by-cases P (load.more N h) (λ _. goes (load.reached h (h .position + 1))) (λ _. ends (load.reached h N) 1 v (omega arith))) (λ _.
+      ends h 2 v (omega arith))) (λ _. stays)) (λ _. stays)))
+      (λ _. stays))
+
+  pub load-timer-seen : Seen loadVerdict h tt reply (loadTimer s h file reply)
+  load-timer-seen =
+      called loadVerdict h tt reply (loads.refusal s h file reply) (loads.does file S (load.onTimer N (s .repeats) h))
+      (by-cases P (eqb (h .verdict) 0) (λ v.
+      by-cases P (eqb (h .waiting) 0) (λ _.
+      by-cases P (ltb (h .repeats) (s .repeats)) (λ _. goes (load.repeated h)) (λ _.
+      ends h (pick (load.more N h) 3 4) v (by-cases (λ (n : ℕ). 0 < n) (load.more N h) {x = 3} {y = 4} (λ _. omega arith) (λ _. omega arith)))) (λ _. stays))
+      (λ _. stays))
+
+-- ---- the host's dump
+module _ (s : DumpSettings) (h : DumpSession) (buffer reply : List ℕ) where
+  -- whatever the buffer is made to hold
+  abbrev D : List ℕ → DumpNext → Type 0
+  D made next = Seen dumpVerdict h buffer reply (gives (dumps.does s next made) reply)
+
+  asks : (made : List ℕ) (r : DumpSession) (takes : Bool) → D made (dump.asks r takes)
+  unfolding layout
+  asks made r takes =
+      let m = requestDump (dump.place s r) (dump.asked s r) in
+      sent-seen dumpVerdict h buffer reply (dumps.counted (dump.asks r takes)) made m (omega arith)
+
+  completes : (made : List ℕ) (r : DumpSession) (n : ℕ) (takes : Bool) → D made (dump.completes r n takes)
+  unfolding layout
+  completes made r n takes = sent-seen dumpVerdict h buffer reply (dumps.counted (dump.completes r n takes)) made dumpComplete (omega arith)
+
+  module _ (bytes : List ℕ) where
+    abbrev F : DumpNext → Type 0
+    F next = D (dumps.filled (next .takes) bytes (h .filled) buffer) next
+
+    kept : F (dump.ignores h)
+    kept _ _ _ = simp add-zero
+
+    taken : (r : DumpSession) → F (dump.takes s r)
+    taken r = by-cases F (eqb (r .filled) (s .length)) {x = dump.completes r 1 true} {y = dump.asks r true} (λ _. completes _ r 1 true) (λ _. asks _ r true)
+
+    reacts : (f : Fields) → F (dump.react s h f)
+    reacts f =
+        by-cases F (eqb (h .verdict) 0) (λ _.
+        by-cases F (eqb (f .code) 12) (λ _. by-cases F (eqb (h .waiting) 1) (λ _. asks _ (dump.reached h 0) false) (λ _. kept)) (λ _.
+        by-cases F (eqb (f .code) 14) (λ _.
+        by-cases F (eqb (h .waiting) 0 && eqb (f .address) (dump.place s h) && leb 1 (f .«data_length») && leb (f .«data_length») (dump.asked s h))
+        (λ _. taken (dump.reached h (h .filled + f .«data_length»))) (λ _. kept)) (λ _. kept)))
+        (λ _. kept)
+
+  pub dump-frame-seen : (frame : List ℕ) → Seen dumpVerdict h buffer reply (dumpFrame s h frame buffer reply)
+  dump-frame-seen frame =
+      let f = fields frame in
+      called dumpVerdict h buffer reply (first (dumps.refusal s h (length buffer) (length reply) ∷ f .refusal ∷ []))
+      (dumps.onFrame s h frame buffer f) (reacts (part frame f) f)
+
+  pub dump-timer-seen : Seen dumpVerdict h buffer reply (dumpTimer s h buffer reply)
+  dump-timer-seen =
+      called dumpVerdict h buffer reply (dumps.refusal s h (length buffer) (length reply)) (dumps.does s (dump.onTimer s h) buffer)
+      (by-cases (D buffer) (eqb (h .verdict) 0) (λ _.
+      by-cases (D buffer) (eqb (h .waiting) 0) (λ _.
+      by-cases (D buffer) (ltb (h .repeats) (s .repeats)) (λ _. asks buffer (dump.repeated h) false) (λ _. completes buffer h 3 false)) (λ _. kept []))
+      (λ _. kept []))
+
+-- ---- the host's loop test
+module _ (s : LoopSettings) (h : LoopSession) (bytes reply : List ℕ) where
+  abbrev L : LoopSession → Type 0
+  L r = Seen {B = Unit {0}} loopVerdict h tt reply (gives (acts r tt nothing) reply)
+
+  unmoved : L h
+  unmoved _ _ _ = refl
+
+  over : (n : ℕ) → eqb (h .verdict) 0 ≡ true → 0 < n → L (loop.ended h n)
+  over n v p _ _ e = absurd (omega (arith, eqb-true (h .verdict) 0 v))
+
+  pub loop-frame-seen : (frame : List ℕ) → Seen loopVerdict h tt reply (loopFrame s h bytes frame reply)
+  loop-frame-seen frame =
+      let f = fields frame in
+      let back = part frame f in
+      called loopVerdict h tt reply (first (loop.refusal s h (length bytes) (length reply) ∷ f .refusal ∷ [])) (loop.onFrame s h bytes frame f)
+      (by-cases L (eqb (h .verdict) 0) (λ v.
+      by-cases L (eqb (f .code) 24) (λ _. by-cases L (eqb (f .receipt) (s .receipt) && loop.same back bytes) (λ _. over 2 v (omega arith)) (λ _. unmoved)) (λ _.
+      by-cases L (eqb (f .code) 26) (λ _. by-cases L (eqb (f .receipt) (s .receipt) && loop.same back bytes) (λ _. over 1 v (omega arith)) (λ _. unmoved)) (λ _.
+      unmoved)))
+      (λ _. unmoved))
+
+  pub loop-timer-seen : Seen loopVerdict h tt reply (loopTimer s h bytes reply)
+  unfolding layout
+  loop-timer-seen =
+      let out = sent-seen loopVerdict h tt reply (loop.repeated h) tt (loopData (s .receipt) bytes) (omega arith) in
+      called loopVerdict h tt reply (loop.refusal s h (length bytes) (length reply)) (loop.onTimer s h bytes)
+      (by-cases A (eqb (h .verdict) 0) (λ v. by-cases A (ltb (h .repeats) (s .repeats)) (λ _. out) (λ _. over 3 v (omega arith))) (λ _. unmoved))
+    where
+      A : Act LoopSession (Unit {0}) → Type 0
+      A act = Seen loopVerdict h tt reply (gives act reply)
+
+-- ---- the machine
+module _ (s : MachineSettings) (m : Machine) (memory reply : List ℕ) where
+  abbrev M : Act Machine (List ℕ) → Type 0
+  M act = Seen machineState m memory reply (gives act reply)
+
+  idles : M (ignores m memory)
+  idles _ _ _ = refl
+
+  replies : (next : Machine) (after : List ℕ) (number error : ℕ) → M (acts next after (sends (requestLoad number error)))
+  unfolding layout
+  replies next after number error = sent-seen machineState m memory reply next after (requestLoad number error) (omega arith)
+
+  loaded : (number address : ℕ) (bytes : List ℕ) (fitted : Machine) → M (machine.onLoad m number address bytes fitted memory)
+  unfolding machine.onLoad machine.byNumber
+  loaded number address bytes fitted =
+      by-cases M (eqb (machine.heed m number) 1) (λ _.
+      by-cases M (fits address (length bytes) (length memory)) (λ _. replies _ _ (machine.after number) 0) (λ _. replies _ _ (machine.after number) 1)) (λ _.
+      by-cases M (eqb (machine.heed m number) 2) (λ _. replies m memory (m .expected) (m .error)) (λ _. idles))
+
+  pub machine-frame-seen : (frame : List ℕ) → Seen machineState m memory reply (machineFrame s m frame memory reply)
+  unfolding layout
+  machine-frame-seen frame =
+      let f = fields frame in
+      let bytes = part frame f in
+      called machineState m memory reply (first (machine.refusal s m (length memory) (length reply) ∷ f .refusal ∷ [])) (machine.react s m f frame memory)
+      (by-cases M (eqb (f .code) 0) (λ _. loaded (f .number) (f .address) bytes (machine.started (f .transfer))) (λ _.
+      by-cases M (eqb (f .code) 2) (λ _. loaded (f .number) (f .address) bytes (machine.loading (machine.after (f .number)) 0)) (λ _.
+      by-cases M (eqb (f .code) 4) (λ _.
+      by-cases M (machine.is 0 m || machine.is 1 m) (λ _. sent-seen machineState m memory reply m memory (dumpData (f .address) (bytesFrom memory (f .address) (min (f .count) (s .«reply_bytes»)))) (omega arith)) (λ _. idles)) (λ _.
+      by-cases M (eqb (f .code) 1) (λ _. by-cases M (machine.is 1 m) (λ v _ _ e. absurd (omega (arith, eqb-true (m .state) 1 v))) (λ _. idles)) (λ _.
+      by-cases M (eqb (f .code) 24) (λ _.
+      by-cases M (machine.is 0 m) (λ _. sent-seen machineState m memory reply m memory (loopedData (f .receipt) bytes) (omega arith)) (λ _. idles)) (λ _.
+      idles))))))
+
+  pub machine-timer-seen : Seen machineState m memory reply (machineTimer s m memory reply)
+  unfolding layout
+  machine-timer-seen =
+      called machineState m memory reply (machine.refusal s m (length memory) (length reply)) (machine.onTimer s m memory)
+      (by-cases O (machine.is 2 m) (λ _. sent-seen machineState m memory reply m memory (requestProgram (s .device) 1 2 255 [] (s .processor) []) (omega arith)) (λ _.
+      by-cases O (machine.is 1 m) (λ _. sent-seen machineState m memory reply m memory (requestDumpService (s .device) 1 (length memory) 0 []) (omega arith)) (λ _. idles)))
+    where
+      O : Sending → Type 0
+      O out = M (acts m memory out)

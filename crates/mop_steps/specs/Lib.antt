@@ -1,0 +1,2 @@
+pub mod Ignored
+pub mod Laws

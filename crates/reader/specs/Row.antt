@@ -1,0 +1,15 @@
+-- What the row of a code says of a frame whose length is right.
+use Prim.Native.Nat.{ℕ}
+use mathlib.Core.List.{List}
+use mathlib.Core.Option.{Option, none, some}
+use Rattle.message.specs.declared.Fields.{Fields}
+use Rattle.message.specs.Read.{refusedFields, shortest, Row}
+
+-- its least length, and its numbers
+abbrev pub atLeast : Option Row → ℕ
+atLeast none = 0
+atLeast (some row) = shortest (row .long)
+
+abbrev pub byRow : List ℕ → Option Row → Fields
+byRow s none = refusedFields 3
+byRow s (some row) = row .fields s
