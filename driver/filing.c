@@ -23,10 +23,30 @@ static int make_room(dumping *d, copy *c)
     return 0;
 }
 
+/* The machine of the earlier run is the one that is served. */
+static int take_machine(dumping *d)
+{
+    char text[ADDRESS_TEXT] = "";
+    uint8_t address[ADDRESS_LENGTH];
+    size_t length = 0;
+    const char *said = record_find(d->earlier, "machine: ", &length);
+    if (said == NULL || length < ADDRESS_TEXT - 1)
+        return 0; /* none had asked */
+    memcpy(text, said, ADDRESS_TEXT - 1);
+    int status = option_address("the record's machine", text, address);
+    if (status != 0)
+        return status;
+    if (d->host->named && memcmp(address, d->host->machine, ADDRESS_LENGTH) != 0)
+        return complain(STATUS_FILE, "%s.record is of the machine %s: --resume does not fit", d->path, text);
+    memcpy(d->host->machine, address, ADDRESS_LENGTH);
+    d->host->named = true;
+    return 0;
+}
+
 /* Whether the record of the earlier run is about the same dump. */
 static int check_earlier(dumping *d, const contents *came)
 {
-    char range[64] = "", sum[SHA256_TEXT], machine[ADDRESS_TEXT] = "";
+    char range[64] = "", sum[SHA256_TEXT];
     size_t length = 0;
     FILE *out = fmemopen(range, sizeof range, "w");
     if (out != NULL) {
@@ -41,17 +61,7 @@ static int check_earlier(dumping *d, const contents *came)
     sha256_text(came->bytes, came->length, sum);
     if (said != NULL && strncmp(said, sum, strlen(sum)) != 0)
         return complain(STATUS_FILE, "%s is not the one that its record tells of", d->copies[0].part.name);
-    said = record_find(d->earlier, "machine: ", &length);
-    if (said == NULL || length < ADDRESS_TEXT - 1)
-        return 0;
-    memcpy(machine, said, ADDRESS_TEXT - 1);
-    uint8_t address[ADDRESS_LENGTH];
-    int status = option_address("the record's machine", machine, address);
-    if (status == 0 && d->host->named && memcmp(address, d->host->machine, ADDRESS_LENGTH) != 0)
-        return complain(STATUS_FILE, "%s.record is of the machine %s: --resume does not fit", d->path, machine);
-    memcpy(d->host->machine, address, ADDRESS_LENGTH);
-    d->host->named = true;
-    return status;
+    return take_machine(d);
 }
 
 /* Takes up what an earlier run brought: the session asks for the rest. */
