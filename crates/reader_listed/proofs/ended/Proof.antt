@@ -1,7 +1,7 @@
 use borrow.Author.Needs.{needs}
 use borrow.Author.Tests.{ne-eqb}
-use Rattle.reader.proofs.ended.Statement.{statement}
-use Rattle.reader.proofs.ended.Tie as tie
+use Rattle.reader_listed.proofs.ended.Statement.{statement}
+use Rattle.reader_listed.proofs.ended.Tie as tie
 
 enum-told : tie.Need-enum-told
 enum-told c = search needs

@@ -1,7 +1,7 @@
 use borrow.Author.Needs.{needs}
 use borrow.Author.Tests.{lt-ltb, le-ltb}
-use Rattle.reader.proofs.with_id.Statement.{statement}
-use Rattle.reader.proofs.with_id.Tie as tie
+use Rattle.reader_listed.proofs.with_id.Statement.{statement}
+use Rattle.reader_listed.proofs.with_id.Tie as tie
 
 add-end : tie.Need-add-end
 add-end c = search needs
