@@ -13,7 +13,7 @@ use Rattle.image.specs.declared.Tally.{Tally}
 abbrev pub widest : ℕ
 widest = 1490
 
--- of a file to be cut into segments of S bytes: 10 for S comes first
+-- the refusal of a file to be cut into segments of S bytes: 10 for S comes first
 abbrev pub cutRefusal : List ℕ → ℕ → ℕ
 cutRefusal file S = demand (leb 1 S) 10 (demand (leb S widest) 10 (refusal file))
 
