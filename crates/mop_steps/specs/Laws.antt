@@ -37,6 +37,8 @@ use Rattle.dump.specs.Dump as dumps
 use Rattle.dump.specs.Dump.{dumpFrame, dumpTimer}
 use Rattle.looptest_next.specs.declared.Settings.{Settings as LoopSettings}
 use Rattle.looptest_next.specs.declared.Session.{Session as LoopSession}
+use Rattle.looptest_next.specs.declared.Next.{Next as LoopNext}
+use Rattle.looptest_next.specs.Next as loopNext
 use Rattle.looptest.specs.Loop as loop
 use Rattle.looptest.specs.Loop.{loopFrame, loopTimer}
 use Rattle.mop_steps.specs.Ignored.{Seen, loadVerdict, dumpVerdict, loopVerdict, machineState}
@@ -158,7 +160,7 @@ module _ (s : LoopSettings) (h : LoopSession) (bytes reply : List ℕ) where
   unmoved : L h
   unmoved _ _ _ = refl
 
-  over : (n : ℕ) → eqb (h .verdict) 0 ≡ true → 0 < n → L (loop.ended h n)
+  over : (n : ℕ) → eqb (h .verdict) 0 ≡ true → 0 < n → L (loopNext.ended h n)
   over n v p _ _ e = absurd (omega (arith, eqb-true (h .verdict) 0 v))
 
   pub loop-frame-seen : (frame : List ℕ) → Seen loopVerdict h tt reply (loopFrame s h bytes frame reply)
@@ -167,20 +169,20 @@ module _ (s : LoopSettings) (h : LoopSession) (bytes reply : List ℕ) where
       let back = part frame f in
       called loopVerdict h tt reply (first (loop.refusal s h (length bytes) (length reply) ∷ f .refusal ∷ [])) (loop.onFrame s h bytes frame f)
       (by-cases L (eqb (h .verdict) 0) (λ v.
-      by-cases L (eqb (f .code) 24) (λ _. by-cases L (eqb (f .receipt) (s .receipt) && loop.same back bytes) (λ _. over 2 v (omega arith)) (λ _. unmoved)) (λ _.
-      by-cases L (eqb (f .code) 26) (λ _. by-cases L (eqb (f .receipt) (s .receipt) && loop.same back bytes) (λ _. over 1 v (omega arith)) (λ _. unmoved)) (λ _.
+      by-cases L (eqb (f .code) 24) (λ _. by-cases L (eqb (f .receipt) (s .receipt) && loopNext.same back bytes) (λ _. over 2 v (omega arith)) (λ _. unmoved)) (λ _.
+      by-cases L (eqb (f .code) 26) (λ _. by-cases L (eqb (f .receipt) (s .receipt) && loopNext.same back bytes) (λ _. over 1 v (omega arith)) (λ _. unmoved)) (λ _.
       unmoved)))
       (λ _. unmoved))
 
   pub loop-timer-seen : Seen loopVerdict h tt reply (loopTimer s h bytes reply)
   unfolding layout
   loop-timer-seen =
-      let out = sent-seen loopVerdict h tt reply (loop.repeated h) tt (loopData (s .receipt) bytes) (omega arith) in
-      called loopVerdict h tt reply (loop.refusal s h (length bytes) (length reply)) (loop.onTimer s h bytes)
+      let out = sent-seen loopVerdict h tt reply (loop.counted (loopNext.repeated h)) tt (loopData (s .receipt) bytes) (omega arith) in
+      called loopVerdict h tt reply (loop.refusal s h (length bytes) (length reply)) (loop.does s (loopNext.onTimer s h) bytes)
       (by-cases A (eqb (h .verdict) 0) (λ v. by-cases A (ltb (h .repeats) (s .repeats)) (λ _. out) (λ _. over 3 v (omega arith))) (λ _. unmoved))
     where
-      A : Act LoopSession (Unit {0}) → Type 0
-      A act = Seen loopVerdict h tt reply (gives act reply)
+      A : LoopNext → Type 0
+      A n = Seen loopVerdict h tt reply (gives (loop.does s n bytes) reply)
 
 -- ---- the machine
 module _ (s : MachineSettings) (m : Machine) (memory reply : List ℕ) where
