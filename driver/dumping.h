@@ -42,6 +42,9 @@ typedef struct dumping {
 /* The bytes of the range that a copy has. */
 uint64_t dumping_came(const dumping *d, const copy *c);
 
+/* What is to be told besides the verdict, in sentences. */
+void dumping_doubts(const dumping *d, int status, FILE *out);
+
 /* Everything that can fail, before the machine is asked: names, room, what is
  * there already, what --resume takes up. 0 or an exit status. */
 int filing_prepare(dumping *d);

@@ -35,6 +35,8 @@ static int check_earlier(dumping *d, const contents *came)
     }
     if (record_find(d->earlier, range, &length) == NULL || length != 0)
         return complain(STATUS_FILE, "%s.record is of another range: --resume does not fit", d->path);
+    if (record_find(d->earlier, "twice: first differ", &length) != NULL)
+        return complain(STATUS_FILE, "%s.part is one of two dumps that differ: dump again", d->path);
     const char *said = record_find(d->earlier, "sha256: ", &length);
     sha256_text(came->bytes, came->length, sum);
     if (said != NULL && strncmp(said, sum, strlen(sum)) != 0)
@@ -240,13 +242,10 @@ int filing_conclude(dumping *d, int status)
     words_bar_end();
     if (d->settings.length != 0)
         dump_words(stdout, &d->now->session, &d->settings);
-    if (status == STATUS_SHARED)
-        dump_shared_words(stdout);
-    if (d->now->offers > 0)
-        dump_offers_words(stdout, d->now->offers);
     bool whole = status == 0 && (d->settings.length == 0 || d->now->session.verdict == MOP_DUMP_FINISHED);
     if (whole && d->twice && !equal(d))
         status = STATUS_DIFFERENT;
+    dumping_doubts(d, status, stdout);
     int filed = whole && status == 0 ? file_finished(d) : file_unfinished(d, status);
     if (status == 0)
         status = filed == 0 && !whole ? verdict_status(d->now->session.verdict) : filed;

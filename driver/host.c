@@ -46,8 +46,9 @@ int host_open(host *h)
 static int step(host *h, const line_frame *frame)
 {
     uint8_t reply[MOP_FRAME_MOST];
-    mop_written answer = frame == NULL ? h->calls->step(h->job, true, NULL, 0, reply, sizeof reply)
-                                       : h->calls->step(h->job, false, frame->bytes, frame->length, reply, sizeof reply);
+    mop_written answer = frame == NULL
+                             ? h->calls->step(h->job, true, NULL, 0, reply, sizeof reply)
+                             : h->calls->step(h->job, false, frame->bytes, frame->length, reply, sizeof reply);
     if (mop_refused_frame(answer.refusal)) {
         h->unreadable += 1;
         return 0;

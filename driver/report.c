@@ -64,15 +64,14 @@ static void write_file(const dumping *d, const copy *c, const char *which, const
             strerror(c->part.failed));
 }
 
-/* The sentences for whoever reads it. */
-static void write_words(const dumping *d, int status, FILE *out)
+/* Two that were compared need no word on offers. */
+void dumping_doubts(const dumping *d, int status, FILE *out)
 {
-    if (d->settings.length != 0)
-        dump_words(out, &d->now->session, &d->settings);
+    uint64_t offers = d->copies[0].offers + d->copies[1].offers;
     if (status == STATUS_SHARED)
         dump_shared_words(out);
-    if (d->now->offers > 0)
-        dump_offers_words(out, d->now->offers);
+    if (offers > 0 && d->compared[0] == '\0')
+        dump_offers_words(out, offers);
 }
 
 /* The record of the run before, each line behind a mark. */
@@ -107,7 +106,9 @@ static void body_end(const dumping *d, int status, const char *file, FILE *out)
     write_file(d, &d->copies[0], "", file, out);
     if (d->now == &d->copies[1] && status != 0)
         write_file(d, d->now, "second ", d->now->part.name, out);
-    write_words(d, status, out);
+    if (d->settings.length != 0)
+        dump_words(out, &d->now->session, &d->settings);
+    dumping_doubts(d, status, out);
 }
 
 /* The text of a record, which the caller frees. */
