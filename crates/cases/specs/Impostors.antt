@@ -10,8 +10,8 @@ use lib.Dec.{eqb}
 use Rattle.octets.specs.Number.{number, low}
 use Rattle.octets.specs.Lay.{over}
 use Rattle.memory.specs.Memory.{fits, bytesFrom}
-use Rattle.message.specs.Message.{least, leastIn, dumpData}
-use Rattle.message.specs.Read.{byCode, fields, part}
+use Rattle.message.specs.Message.{dumpData}
+use Rattle.message.specs.Read.{find, fields, part}
 use Rattle.message.specs.Write.{layout}
 use Rattle.step.specs.Step.{first, sends}
 use Rattle.directory.specs.Directory.{trailerOf, entryOf, entries, demand, entriesRefusal}
@@ -63,7 +63,7 @@ abbrev acknowledges : Ends Session End ⊥
 acknowledges = withMachine (λ e f b. pick (eqb (fields f .number) 0) (ours .machineFrame e f b) (leaves (e .memory) (ours .machineFrame e f b)))
 
 pub acknowledges-only : Claim acknowledges 8 whole → ⊥
-unfolding run laidOver loaded.image number low least leastIn byCode fields layout first trailerOf entryOf entries demand entriesRefusal many segment fits byNumber onLoad
+unfolding run laidOver loaded.image number low find fields layout first trailerOf entryOf entries demand entriesRefusal many segment fits byNumber onLoad
 acknowledges-only r = let z = ap (λ (m : List ℕ). getD m 4 0) (r .finished refl .memory-is) in omega arith
 
 -- A machine that clips: it works as if memory were longer, and what is beyond memory's end is lost. Segment 1 is beyond 4 bytes.
@@ -75,7 +75,7 @@ abbrev clips : Ends Session End ⊥
 clips = withMachine (λ e f b. clipped (length (e .memory)) (ours .machineFrame (machineEnd (e .machine) (e .memory ++ replicate 8 0)) f b))
 
 pub clips-beyond : Claim clips 4 whole → ⊥
-unfolding run loaded.image number low least leastIn byCode fields layout first trailerOf entryOf entries demand entriesRefusal many segment fits byNumber onLoad
+unfolding run loaded.image number low find fields layout first trailerOf entryOf entries demand entriesRefusal many segment fits byNumber onLoad
 clips-beyond r = let z = ap {B = ℕ} (λ (b : Bool). pick b 1 0) (r .finished refl .fitting 1 (omega arith)) in omega arith
 
 -- A host that says finished on the first reply.
@@ -87,7 +87,7 @@ abbrev hasty : Ends Session End ⊥
 hasty = withHost (λ h f b. pick (eqb (fields f .code) 10) (finished (ours .hostFrame h f b)) (ours .hostFrame h f b))
 
 pub finished-on-first : Claim hasty 8 (take 3 whole) → ⊥
-unfolding run laidOver loaded.image number low least leastIn byCode fields layout first trailerOf entryOf entries demand entriesRefusal many segment fits byNumber onLoad
+unfolding run laidOver loaded.image number low find fields layout first trailerOf entryOf entries demand entriesRefusal many segment fits byNumber onLoad
 finished-on-first r = let z = ap (λ (m : List ℕ). getD m 4 0) (r .finished refl .memory-is) in omega arith
 
 -- A host that invents its count: one more than it sends.
@@ -99,7 +99,7 @@ abbrev inventive : Ends Session End ⊥
 inventive = withHost (λ h f b. more (ours .hostFrame h f b))
 
 pub invented-count : Claim inventive 8 (take 1 whole) → ⊥
-unfolding run loaded.image number low least leastIn byCode fields layout first trailerOf entryOf entries demand entriesRefusal many segment
+unfolding run loaded.image number low find fields layout first trailerOf entryOf entries demand entriesRefusal many segment
 invented-count r = let z = r .counted in omega arith
 
 -- ---- a dump of 3 bytes from address 1 of the memory 7, 8, 9, at most 2 at a time, into the buffer 5, 5, 5
@@ -129,7 +129,7 @@ fromStart =
     }
 
 pub wrong-place : Dumped dumped.s memory buffer (run fromStart (dump.freshWorld dumped.ms memory buffer) whole) → ⊥
-unfolding run byCode fields least leastIn layout low number first bytesFrom
+unfolding run find fields layout low number first bytesFrom
 wrong-place d = let z = ap (λ (b : List ℕ). getD b 0 0) (d .buffer-is) in omega arith
 
 -- ---- the line
@@ -140,5 +140,5 @@ forged =
     withToHost w (w .toHost ++ queued (sends (dumpData 1 (66 ∷ []))))
 
 pub forged-reply : Dumped dumped.s memory buffer (run ourDump forged (own (handToHost reply) ∷ own (handToHost reply) ∷ [])) → ⊥
-unfolding run byCode fields least leastIn layout low number first bytesFrom
+unfolding run find fields layout low number first bytesFrom
 forged-reply d = let z = ap (λ (b : List ℕ). getD b 0 0) (d .buffer-is) in omega arith

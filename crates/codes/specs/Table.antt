@@ -10,9 +10,9 @@ abbrev pub mark : Long → ℕ
 mark (least n) = 256 + n
 mark (exactly n) = 512 + n
 
--- 0 for a code that is not listed
+-- 1 for a code that is not listed
 abbrev pub marked : Option Row → ℕ
-marked none = 0
+marked none = 1
 marked (some row) = mark (row .long)
 
 -- the longest frame of an entry

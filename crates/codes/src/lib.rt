@@ -3,48 +3,51 @@ ghost use mathlib.Core.Path.{_≡_};
 ghost use Rattle.message.specs.Read.{rows, find};
 ghost use Rattle.codes.specs.Table.{marked, limit, refusal};
 
-// What marks a listed code with its least length, and one with its only length.
+// What marks a code that is not listed, one with its least length, and one with its only length. NONE is not 0: runs of zeros
+// are laid out by themselves, so that the table takes twice the stores.
+const NONE: u16 = 1;
+
 const LEAST: u16 = 256;
 
 const EXACTLY: u16 = 512;
 
-// The codes 0 to 26, 0 where none is listed.
+// The codes 0 to 26.
 const CODES: [u16; 27] = [
     LEAST + 10,
     EXACTLY + 1,
     LEAST + 6,
     EXACTLY + 1,
     EXACTLY + 7,
-    0,
-    0,
-    0,
+    NONE,
+    NONE,
+    NONE,
     LEAST + 6,
-    0,
+    NONE,
     EXACTLY + 3,
-    0,
+    NONE,
     LEAST + 8,
-    0,
+    NONE,
     LEAST + 5,
-    0,
-    0,
-    0,
-    0,
-    0,
+    NONE,
+    NONE,
+    NONE,
+    NONE,
+    NONE,
     LEAST + 7,
-    0,
-    0,
-    0,
+    NONE,
+    NONE,
+    NONE,
     LEAST + 3,
-    0,
+    NONE,
     LEAST + 3,
 ];
 
-// The table's entry of a code, 0 beyond its end.
+// The table's entry of a code, NONE beyond its end.
 fn entry(code: u8) -> u16
     ensures { λ r. ⌜ r ≡ marked (find rows code) ⌝ }
 {
     if 26 < code {
-        return 0;
+        return NONE;
     }
     CODES[code as usize]
 }

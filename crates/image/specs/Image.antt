@@ -1,8 +1,8 @@
 -- Image files cut into segments (paper 01, 'Image file'): the segments, and what a walk over the directory finds.
 -- A `Region` and a `Tally` are the code's own types.
-use Prim.Native.Nat.{ℕ, _+_, _-_, _*_, _/_, min}
+use Prim.Native.Nat.{ℕ, zero, suc, _+_, _-_, _*_, _/_, min}
 use mathlib.Core.Bool.{cond as pick}
-use mathlib.Core.List.{List, [], _∷_}
+use mathlib.Core.List.{List, [], _∷_, _++_}
 use lib.Dec.{eqb, leb, ltb}
 use Rattle.directory.specs.declared.Trailer.{Trailer}
 use Rattle.directory.specs.declared.Region.{Region}
@@ -13,7 +13,7 @@ use Rattle.image.specs.declared.Tally.{Tally}
 abbrev pub widest : ℕ
 widest = 1490
 
--- of a file to be cut into segments of S bytes: 10 for S comes first
+-- the refusal of a file to be cut into segments of S bytes: 10 for S comes first
 abbrev pub cutRefusal : List ℕ → ℕ → ℕ
 cutRefusal file S = demand (leb 1 S) 10 (demand (leb S widest) 10 (refusal file))
 
@@ -30,6 +30,11 @@ cut S r j =
       place = r .place + j * S;
       length = min S (r .length - j * S);
     }
+
+-- the bytes of parts 0 to j - 1, end to end
+unfoldable pub joined : List ℕ → ℕ → Region → ℕ → List ℕ
+joined file S r zero = []
+joined file S r (suc j) = joined file S r j ++ bytes file (cut S r j)
 
 -- N, the number of segments
 unfoldable pub many : ℕ → List Region → ℕ

@@ -1,14 +1,14 @@
 -- Laws of the parts of one region: how many there are, and that they are the region, end to end.
 use Prim.Native.Nat.{ℕ, zero, suc, _+_, _-_, _*_, _/_, _≤_, _<_, min}
 use mathlib.Core.Path.{_≡_}
-use mathlib.Core.List.{List, [], _∷_, _++_}
+use mathlib.Core.List.{List, [], _∷_}
 use native.Mathlib.Nat.{zero-mul, suc-mul, zero-min, min-zero, suc-min-suc, sub-zero, zero-sub, suc-sub-suc}
 use native.Mathlib.Nat.{add-div-right, div-lt-iff-lt-mul, le-div-iff-mul-le, lt-div-mul-add, mul-le-mul-left}
 use native.Mathlib.Omega.{arith}
 use lib.ListN.{length, take, drop, length-take, length-drop}
 use lib.Seq.{take-add, take-all, take-nil, drop-drop}
 use Rattle.directory.specs.Directory.{bytes}
-use Rattle.image.specs.Image.{parts, cut}
+use Rattle.image.specs.Image.{parts, cut, joined}
 use Rattle.directory.specs.declared.Region.{Region}
 
 -- the number of parts without a sum above the length
@@ -43,11 +43,6 @@ drop-take zero m l = rw sub-zero
 drop-take (suc n) zero l = rw zero-sub
 drop-take (suc n) (suc m) [] = rw take-nil
 drop-take (suc n) (suc m) (x ∷ l) = rw (suc-sub-suc, drop-take n m l)
-
--- the bytes of parts 0 to j - 1, end to end
-unfoldable pub joined : List ℕ → ℕ → Region → ℕ → List ℕ
-joined file S r zero = []
-joined file S r (suc j) = joined file S r j ++ bytes file (cut S r j)
 
 pub joined-take : (file : List ℕ) (S : ℕ) (r : Region) (j : ℕ) → joined file S r j ≡ take (j * S) (bytes file r)
 unfolding joined

@@ -12,8 +12,8 @@ use Rattle.memory.specs.Memory.{laid}
 use Rattle.memory.specs.Laws.{length-laid, laid-joined, laid-within, laid-before, laid-behind}
 use Rattle.directory.specs.declared.Region.{Region}
 use Rattle.directory.specs.Directory.{bytes, ending, nowhere, entriesRefusal}
-use Rattle.image.specs.Image.{many, segment, parts, cut}
-use Rattle.image.specs.PartsLaws.{joined, joined-whole, cut-address, length-bytes, parts-some}
+use Rattle.image.specs.Image.{many, segment, parts, cut, joined}
+use Rattle.image.specs.PartsLaws.{joined-whole, cut-address, length-bytes, parts-some}
 use Rattle.directory.specs.Laws.{Fit, accepted-cons}
 use Rattle.image.specs.Laws.{segment-here, segment-later}
 

@@ -1,29 +1,29 @@
 -- The two laws of frames, each over all codes.
 --     read-written    reading what was written yields the fields
 --     written-read    writing the fields of an accepted frame yields that frame, byte for byte
-use Prim.Native.Nat.{ℕ, suc, _+_, _-_, _^_, _<_, _≤_, min}
+use Prim.Native.Nat.{ℕ, suc, _+_, _-_, _^_, _<_, _≤_}
 use mathlib.Core.Path.{_≡_, refl, ap, sym, _∙_, subst}
-use mathlib.Core.Bool.{Bool, true, false, _&&_, cond}
+use mathlib.Core.Bool.{Bool, true, false, _&&_}
 use mathlib.Core.List.{List, [], _∷_, _++_, append-assoc, append-nil}
 use mathlib.Core.Option.{Option, none, some}
 use native.Mathlib.Omega.{arith}
 use native.Mathlib.Nat.{le-antisymm, le-trans}
 use native.Mathlib.Numerals.{add-one}
-use lib.ListN.{length, getD, take, drop, length-append, length-take, length-drop, take-append-drop, drop-of-length-le}
-use lib.Seq.{drop-cons, drop-drop, drop-at, take-at, getD-at, take-all, take-length, getD-take, getD-drop}
-use lib.Dec.{eqb, leb, ltb}
+use lib.ListN.{length, take, drop, length-append, length-take, length-drop, take-append-drop, drop-of-length-le}
+use lib.Seq.{drop-cons, drop-drop, drop-at, take-at, getD-at, take-all, take-length}
+use lib.Dec.{eqb, ltb}
 use borrow.Author.Tests.{eq-eqb, ne-eqb, lt-ltb, le-ltb, eqb-true, eqb-false, ltb-false, ltb-true}
 use Rattle.octets.specs.Number.{number, low, Octets}
 use Rattle.octets.specs.NumberLaws.{octets-part, length-low, part-bound, number-low, low-number}
 use Rattle.octets.specs.declared.Written.{Written}
 use Rattle.octets.specs.TestLaws.{by-cases, both}
-use Rattle.octets.specs.Lay.{Output, written, refuse, laid, Came}
+use Rattle.octets.specs.Lay.{Output, written, laid, Came}
 use Rattle.entries_next.specs.declared.Place.{Place}
 use Rattle.entries_next.specs.declared.Place.the-variants.{Kind, Size, Value, Time, Transfer, Outside, Excess}
 use Rattle.entries.specs.Entries.{walk}
 use Rattle.entries.specs.Laws.{walk-ended, accepted}
 use Rattle.message.specs.Message.{Message, memoryLoadTransfer, memoryLoad, requestProgram, requestLoad, requestDump, requestDumpService, dumpData, dumpComplete, volunteer, parameters, loopData, loopedData, programListed, formListed, idLength}
-use Rattle.message.specs.Read.{byte, word, lastWord, columns, memoryLoadTransferFields, memoryLoadFields, idFields, withId, requestProgramFields, requestLoadFields, requestDumpFields, requestDumpServiceFields, dumpDataFields, codeFields, refusedFields, ended, entriesFields, parametersFields, loopFields, Long, least, exactly, shortest, longest, Row, rows, find, frame, fields, Reading, refused, message, stated, said, read}
+use Rattle.message.specs.Read.{byte, word, lastWord, columns, memoryLoadTransferFields, memoryLoadFields, idFields, withId, requestProgramFields, requestLoadFields, requestDumpFields, requestDumpServiceFields, dumpDataFields, codeFields, refusedFields, ended, entriesFields, parametersFields, loopFields, shortest, longest, Row, rows, find, frame, fields, Reading, refused, message, stated, said, read}
 use Rattle.message.specs.declared.Fields.{Fields}
 use Rattle.message.specs.Write.{whole, idFits, Part, parts, joined, layout, listed, Sized, write, sent}
 

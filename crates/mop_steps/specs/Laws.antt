@@ -32,10 +32,13 @@ use Rattle.dump_next.specs.declared.Settings.{Settings as DumpSettings}
 use Rattle.dump_next.specs.declared.Session.{Session as DumpSession}
 use Rattle.dump_next.specs.declared.Next.{Next as DumpNext}
 use Rattle.dump_next.specs.Next as dump
+use Rattle.dump_record.specs.Record as dumpRecord
 use Rattle.dump.specs.Dump as dumps
 use Rattle.dump.specs.Dump.{dumpFrame, dumpTimer}
 use Rattle.looptest_next.specs.declared.Settings.{Settings as LoopSettings}
 use Rattle.looptest_next.specs.declared.Session.{Session as LoopSession}
+use Rattle.looptest_next.specs.declared.Next.{Next as LoopNext}
+use Rattle.looptest_next.specs.Next as loopNext
 use Rattle.looptest.specs.Loop as loop
 use Rattle.looptest.specs.Loop.{loopFrame, loopTimer}
 use Rattle.mop_steps.specs.Ignored.{Seen, loadVerdict, dumpVerdict, loopVerdict, machineState}
@@ -138,12 +141,12 @@ module _ (s : DumpSettings) (h : DumpSession) (buffer reply : List ℕ) where
   pub dump-frame-seen : (frame : List ℕ) → Seen dumpVerdict h buffer reply (dumpFrame s h frame buffer reply)
   dump-frame-seen frame =
       let f = fields frame in
-      called dumpVerdict h buffer reply (first (dumps.refusal s h (length buffer) (length reply) ∷ f .refusal ∷ []))
+      called dumpVerdict h buffer reply (first (dumpRecord.refusal s h (length buffer) (length reply) ∷ f .refusal ∷ []))
       (dumps.onFrame s h frame buffer f) (reacts (part frame f) f)
 
   pub dump-timer-seen : Seen dumpVerdict h buffer reply (dumpTimer s h buffer reply)
   dump-timer-seen =
-      called dumpVerdict h buffer reply (dumps.refusal s h (length buffer) (length reply)) (dumps.does s (dump.onTimer s h) buffer)
+      called dumpVerdict h buffer reply (dumpRecord.refusal s h (length buffer) (length reply)) (dumps.does s (dump.onTimer s h) buffer)
       (by-cases (D buffer) (eqb (h .verdict) 0) (λ _.
       by-cases (D buffer) (eqb (h .waiting) 0) (λ _.
       by-cases (D buffer) (ltb (h .repeats) (s .repeats)) (λ _. asks buffer (dump.repeated h) false) (λ _. completes buffer h 3 false)) (λ _. kept []))
@@ -157,7 +160,7 @@ module _ (s : LoopSettings) (h : LoopSession) (bytes reply : List ℕ) where
   unmoved : L h
   unmoved _ _ _ = refl
 
-  over : (n : ℕ) → eqb (h .verdict) 0 ≡ true → 0 < n → L (loop.ended h n)
+  over : (n : ℕ) → eqb (h .verdict) 0 ≡ true → 0 < n → L (loopNext.ended h n)
   over n v p _ _ e = absurd (omega (arith, eqb-true (h .verdict) 0 v))
 
   pub loop-frame-seen : (frame : List ℕ) → Seen loopVerdict h tt reply (loopFrame s h bytes frame reply)
@@ -166,20 +169,20 @@ module _ (s : LoopSettings) (h : LoopSession) (bytes reply : List ℕ) where
       let back = part frame f in
       called loopVerdict h tt reply (first (loop.refusal s h (length bytes) (length reply) ∷ f .refusal ∷ [])) (loop.onFrame s h bytes frame f)
       (by-cases L (eqb (h .verdict) 0) (λ v.
-      by-cases L (eqb (f .code) 24) (λ _. by-cases L (eqb (f .receipt) (s .receipt) && loop.same back bytes) (λ _. over 2 v (omega arith)) (λ _. unmoved)) (λ _.
-      by-cases L (eqb (f .code) 26) (λ _. by-cases L (eqb (f .receipt) (s .receipt) && loop.same back bytes) (λ _. over 1 v (omega arith)) (λ _. unmoved)) (λ _.
+      by-cases L (eqb (f .code) 24) (λ _. by-cases L (eqb (f .receipt) (s .receipt) && loopNext.same back bytes) (λ _. over 2 v (omega arith)) (λ _. unmoved)) (λ _.
+      by-cases L (eqb (f .code) 26) (λ _. by-cases L (eqb (f .receipt) (s .receipt) && loopNext.same back bytes) (λ _. over 1 v (omega arith)) (λ _. unmoved)) (λ _.
       unmoved)))
       (λ _. unmoved))
 
   pub loop-timer-seen : Seen loopVerdict h tt reply (loopTimer s h bytes reply)
   unfolding layout
   loop-timer-seen =
-      let out = sent-seen loopVerdict h tt reply (loop.repeated h) tt (loopData (s .receipt) bytes) (omega arith) in
-      called loopVerdict h tt reply (loop.refusal s h (length bytes) (length reply)) (loop.onTimer s h bytes)
+      let out = sent-seen loopVerdict h tt reply (loop.counted (loopNext.repeated h)) tt (loopData (s .receipt) bytes) (omega arith) in
+      called loopVerdict h tt reply (loop.refusal s h (length bytes) (length reply)) (loop.does s (loopNext.onTimer s h) bytes)
       (by-cases A (eqb (h .verdict) 0) (λ v. by-cases A (ltb (h .repeats) (s .repeats)) (λ _. out) (λ _. over 3 v (omega arith))) (λ _. unmoved))
     where
-      A : Act LoopSession (Unit {0}) → Type 0
-      A act = Seen loopVerdict h tt reply (gives act reply)
+      A : LoopNext → Type 0
+      A n = Seen loopVerdict h tt reply (gives (loop.does s n bytes) reply)
 
 -- ---- the machine
 module _ (s : MachineSettings) (m : Machine) (memory reply : List ℕ) where

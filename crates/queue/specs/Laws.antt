@@ -7,9 +7,9 @@ use native.Mathlib.Omega.{arith}
 use native.Mathlib.Numerals.{add-one}
 use lib.ListN.{length, getD, set}
 use lib.Seq.{getD-set-same, getD-set-other}
-use borrow.Author.Tests.{le-leb, lt-leb, ne-eqb}
+use borrow.Author.Tests.{le-leb, lt-leb, eq-eqb, ne-eqb}
 use Rattle.octets.specs.Lay.{put}
-use Rattle.queue.specs.Queue.{empty, isFull, front, free, join, leave, stored}
+use Rattle.queue.specs.Queue.{empty, isFull, front, free, join, leave, stored, sent, keeps}
 use Rattle.queue.specs.declared.Queue.{Queue}
 
 -- n places of the ring from a place on
@@ -76,3 +76,12 @@ free-apart q k h l e = omega (arith, places-at (q .first) (q .many) k l)
 pub stored-there : (q : Queue) (frame : List ℕ) (places : List (List ℕ)) (at : ℕ) (place : List ℕ) → isFull q ≡ false → at ≡ free q → place ≡ put frame 0 (getD places at [])
     → set places at place ≡ stored q frame places
 stored-there q frame places at place h e p = rw (h, ← e, p)
+
+-- ---- a frame f that an end sent: none, or one
+module _ (q : Queue) (f frame : List ℕ) (places : List (List ℕ)) (e : f ≡ frame) where
+  pub sent-none : length f ≡ 0 → (q ≡ sent q frame) × (places ≡ keeps q frame places)
+  sent-none h = rw (← e, eq-eqb (length f) 0 h) (refl, refl)
+
+  pub sent-some : (length f ≡ 0 → ⊥) → {r : Queue} {places′ : List (List ℕ)} → (r ≡ join q (length f)) × (places′ ≡ stored q f places)
+      → (r ≡ sent q frame) × (places′ ≡ keeps q frame places)
+  sent-some h a = rw (← e, ne-eqb (length f) 0 h) a

@@ -2,7 +2,7 @@
 use Prim.Native.Nat.{ℕ, _+_, _-_, _%_}
 use mathlib.Core.Bool.{Bool, cond as pick}
 use mathlib.Core.List.{List, []}
-use lib.ListN.{getD, set, take, replicate}
+use lib.ListN.{length, getD, set, take, replicate}
 use lib.Dec.{eqb, leb}
 use Rattle.octets.specs.Lay.{put}
 use Rattle.queue.specs.declared.Queue.{Queue}
@@ -34,10 +34,17 @@ join q n = pick (isFull q) q (record { first = q .first; many = q .many + 1; len
 abbrev pub leave : Queue → Queue
 leave q = pick (eqb (q .many) 0) q (record { first = (q .first % 16 + 1) % 16; many = q .many - 1; lengths = q .lengths })
 
--- the frame in front
+-- the frame in front; no bytes if none waits
 abbrev pub first : Queue → List (List ℕ) → List ℕ
 first q places = take (lengthOf q) (getD places (front q) [])
 
 -- the places with a frame in the free one; a full queue keeps them as they are
 abbrev pub stored : Queue → List ℕ → List (List ℕ) → List (List ℕ)
 stored q frame places = pick (isFull q) places (set places (free q) (put frame 0 (getD places (free q) [])))
+
+-- ---- a frame that an end sent joins; no bytes are no frame
+abbrev pub sent : Queue → List ℕ → Queue
+sent q frame = pick (eqb (length frame) 0) q (join q (length frame))
+
+abbrev pub keeps : Queue → List ℕ → List (List ℕ) → List (List ℕ)
+keeps q frame places = pick (eqb (length frame) 0) places (stored q frame places)

@@ -1,8 +1,8 @@
 // The places of a queue of 16 frames: which is in front, which is free, and how long each frame is.
 ghost use mathlib.Core.Path.{_≡_};
 ghost use Prim.Native.Nat.{_<_};
-ghost use lib.ListN.{length};
-ghost use Rattle.queue.specs.Queue.{empty, isFull, front, lengthOf, free, join, leave, first, stored};
+ghost use lib.ListN.{length, take};
+ghost use Rattle.queue.specs.Queue.{empty, isFull, front, lengthOf, free, join, leave, first, stored, sent, keeps};
 
 // The first place in front, how many frames wait, and the length of the frame in each place.
 pub struct Queue {
@@ -100,4 +100,16 @@ pub fn add(queue: Queue, frame: &[u8], places: &mut [[u8; 1500]; 16]) -> Queue
     let at = free(queue);
     octets::put(frame, &mut places[at], 0);
     join(queue, frame.len())
+}
+
+// The first bytes of a buffer, a frame that an end sent, join; no bytes are no frame.
+pub fn send(queue: Queue, buffer: &[u8], length: usize, places: &mut [[u8; 1500]; 16]) -> Queue
+    ensures { λ r. ⌜ (r ≡ sent queue (take length (now (buffer .entry))))
+        × (now (places .exit) ≡ keeps queue (take length (now (buffer .entry))) (now (places .entry))) ⌝ }
+{
+    let frame = text::part(buffer, 0, length);
+    if frame.len() == 0 {
+        return queue;
+    }
+    add(queue, frame, places)
 }

@@ -1,76 +1,86 @@
--- The patterns that the code fills give the lines, and words stand behind their spaces.
-use Prim.Native.Nat.{ℕ, _+_, _-_, _*_, _≤_, min}
-use mathlib.Core.Path.{_≡_, refl, sym, ap, subst, _∙_}
+-- Texts added one behind the other are the lines.
+use Prim.Native.Nat.{ℕ, _+_, _≤_}
+use mathlib.Core.Path.{_≡_, refl, ap, _∙_}
 use mathlib.Core.Bool.{Bool, true, false}
-use mathlib.Core.List.{List, [], _∷_, _++_, append-assoc}
+use mathlib.Core.List.{List, [], _∷_, _++_}
 use native.Mathlib.Omega.{arith}
-use lib.ListN.{length, take, length-append, length-replicate, replicate-append-replicate}
-use lib.Seq.{take-at, take-append-add, take-append-le, length-take-le}
-use borrow.Rule.Slice.PartMut.{midOf, postOf, putMid, mid-len}
-use borrow.Author.Tests.{le-ltb}
-use Rattle.bytes.specs.Bytes.{indexOf}
+use lib.ListN.{length, take, replicate, length-append, length-replicate}
+use lib.Dec.{eqb}
+use borrow.Author.Tests.{eq-eqb, ne-eqb}
 use Rattle.octets.specs.declared.Written.{Written}
-use Rattle.octets.specs.Lay.{Came}
-use Rattle.text.specs.Text.{chars, placed}
-use Rattle.text.specs.Laws.{placed-there}
-use Rattle.hexadecimal.specs.Hexadecimal.{pairs}
-use Rattle.pattern.specs.Pattern.{skip, filled, filling, sentenced}
-use Rattle.pattern.specs.MostLaws.{weigh, every, filling-most}
-use Rattle.words.specs.declared.Words.{Words}
-use Rattle.words.specs.Words.{phrase, spoken}
-use Rattle.words.specs.Laws.{spoken-most}
-use Rattle.transcript.specs.Transcript.{lastLine, badLine, spaces, besideLine, notedLine}
+use Rattle.octets.specs.Lay.{Came, written}
+use Rattle.octets.specs.TestLaws.{by-cases}
+use Rattle.text.specs.Text.{chars, placed, Added}
+use Rattle.text.specs.Laws.{adds, adds-append, adds-there, placed-whole}
+use Rattle.text.specs.Inner.{Adds}
+use Rattle.digits.specs.Laws.{length-digits}
+use Rattle.decimal.specs.Decimal.{decimal}
+use Rattle.decimal.specs.Laws.{decimal-most}
+use Rattle.hexadecimal.specs.Hexadecimal.{pairs, address}
+use Rattle.transcript.specs.Transcript.{initial, sentLine, report, lastLine, badLine}
 
--- a table of short rows that is one pattern
-module _ (table : List ℕ) (v bytes tail out line : List ℕ) {r : Written} {out′ : List ℕ} where
-  gives : every length 130 table ≡ true → every (weigh 0) 6600 table ≡ true → filling table 0 v [] ++ (pairs bytes ++ tail) ≡ line
-      → Came (sentenced table 0 v [] bytes tail out) r out′ → Came (placed line out) r out′
-  gives short light e came = rw (le-ltb 6600 (length (filling table 0 v [])) (filling-most table 6600 short light 0 v [] (omega arith)), e) at came
+-- ---- no line
+pub nothing-placed : (line out : List ℕ) → line ≡ [] → Came (placed line out) (written 0) out
+nothing-placed line out e = rw e (placed-whole [] out (omega arith))
 
-module _ (verdict sent : ℕ) (started : Bool) (transfer : ℕ) (memory out : List ℕ) {r : Written} {out′ : List ℕ} where
-  pub last-started : started ≡ true → Came (sentenced (chars "END #a #b @c ") 0 (verdict ∷ sent ∷ transfer ∷ []) [] memory (chars "\n") out) r out′
-      → Came (placed (lastLine verdict sent started transfer memory) out) r out′
-  unfolding every weigh filled skip indexOf
-  last-started e = gives (chars "END #a #b @c ") (verdict ∷ sent ∷ transfer ∷ []) memory (chars "\n") out (lastLine verdict sent started transfer memory) refl refl (simp (append-assoc, e))
+-- ---- a text behind which others are added
+behind : (xs ys : List ℕ) (at : ℕ) (out : List ℕ) (m : ℕ) (out₁ : List ℕ) (r : ℕ) (out₂ : List ℕ) → Added xs at out m out₁ → Adds ys m out₁ r out₂ → Adds (xs ++ ys) at out r out₂
+behind xs ys at out m out₁ r out₂ a b = adds-append xs ys at out m out₁ r out₂ (adds xs at out m out₁ a) b
 
-  pub last-other : started ≡ false → Came (sentenced (chars "END #a #b - ") 0 (verdict ∷ sent ∷ transfer ∷ []) [] memory (chars "\n") out) r out′
-      → Came (placed (lastLine verdict sent started transfer memory) out) r out′
-  unfolding every weigh filled skip indexOf
-  last-other e = gives (chars "END #a #b - ") (verdict ∷ sent ∷ transfer ∷ []) memory (chars "\n") out (lastLine verdict sent started transfer memory) refl refl (simp (append-assoc, e))
+-- three texts, and seven
+module _ (x y z out : List ℕ) (at : ℕ) where
+  pub three : {i : ℕ} {o : List ℕ} → Added x at out i o → {j : ℕ} {p : List ℕ} → Added y i o j p → {r : ℕ} {out′ : List ℕ} → Added z j p r out′
+      → Adds (x ++ (y ++ z)) at out r out′
+  three {i} {o} a {j} {p} b {r} {out′} c =
+      behind x (y ++ z) at out i o r out′ a (behind y z i o j p r out′ b (adds z j p r out′ c))
 
-pub bad-filled : (refusal : ℕ) (out : List ℕ) {r : Written} {out′ : List ℕ} → Came (sentenced (chars "BAD #a") 0 (refusal ∷ []) [] [] (chars "\n") out) r out′
-    → Came (placed (badLine refusal) out) r out′
-unfolding every weigh filled skip indexOf pairs
-bad-filled refusal out = gives (chars "BAD #a") (refusal ∷ []) [] (chars "\n") out (badLine refusal) refl refl (simp append-assoc)
+  -- with more behind them
+  onward : (rest : List ℕ) → {i : ℕ} {o : List ℕ} → Added x at out i o → {j : ℕ} {p : List ℕ} → Added y i o j p → {k : ℕ} {q : List ℕ} → Added z j p k q
+      → {r : ℕ} {out′ : List ℕ} → Adds rest k q r out′ → Adds (x ++ (y ++ (z ++ rest))) at out r out′
+  onward rest {i} {o} a {j} {p} b {k} {q} c {r} {out′} d =
+      behind x (y ++ (z ++ rest)) at out i o r out′ a (behind y (z ++ rest) i o j p r out′ b (behind z rest j p k q r out′ c d))
 
--- words that were laid behind k of 330 spaces
-spaced : (k : ℕ) → k ≤ 330 → take k (spaces 330) ≡ spaces k
-spaced k h =
-    let e : 330 ≡ k + (330 - k) = omega arith in
-    ap (λ (n : ℕ). take k (spaces n)) e ∙ ap (take k) (sym (replicate-append-replicate k (330 - k) 32)) ∙ take-at (spaces k) (spaces (330 - k)) k (length-replicate k 32)
+pub seven : (a b c d e f g out : List ℕ) → {i₁ : ℕ} {o₁ : List ℕ} → Added a 0 out i₁ o₁ → {i₂ : ℕ} {o₂ : List ℕ} → Added b i₁ o₁ i₂ o₂
+    → {i₃ : ℕ} {o₃ : List ℕ} → Added c i₂ o₂ i₃ o₃ → {i₄ : ℕ} {o₄ : List ℕ} → Added d i₃ o₃ i₄ o₄ → {i₅ : ℕ} {o₅ : List ℕ} → Added e i₄ o₄ i₅ o₅
+    → {i₆ : ℕ} {o₆ : List ℕ} → Added f i₅ o₅ i₆ o₆ → {r : ℕ} {out′ : List ℕ} → Added g i₆ o₆ r out′
+    → Adds (a ++ (b ++ (c ++ (d ++ (e ++ (f ++ g)))))) 0 out r out′
+seven a b c d e f g out {i₁} {o₁} p₁ {i₂} {o₂} p₂ {i₃} {o₃} p₃ {i₄} {o₄} p₄ {i₅} {o₅} p₅ {i₆} {o₆} p₆ {r} {out′} p₇ =
+    onward a b c out 0 (d ++ (e ++ (f ++ g))) p₁ p₂ p₃
+    (behind d (e ++ (f ++ g)) i₃ o₃ i₄ o₄ r out′ p₄ (three e f g o₄ i₄ p₅ p₆ p₇))
 
-pub worded : (w : Words) (k : ℕ) → k ≤ 22 → {r : Written} {rest : List ℕ} → Came (placed (spoken w) (midOf k (330 - k) (spaces 330))) r rest
-    → (k + r .length ≤ 330)
-    × (k + r .length ≤ length (putMid k (330 - k) (spaces 330) rest))
-    × (take (k + r .length) (putMid k (330 - k) (spaces 330) rest) ≡ spaces k ++ spoken w)
-worded w k h {r} {rest} came =
-    let all : length (spaces 330) ≡ 330 = length-replicate {A = ℕ} 330 32 in
-    let lent : length (midOf k (330 - k) (spaces 330)) ≡ 330 - k = mid-len k 330 (spaces 330) (omega (arith, all)) in
-    let there = placed-there (spoken w) (midOf k (330 - k) (spaces 330)) (omega (arith, lent, spoken-most w)) came in
-    let short : r .length ≤ 301 = omega (arith, spoken-most w, ap length (there .1), length-take-le (r .length) rest (there .0)) in
-    let n : length (spaces k) ≡ k = length-replicate {A = ℕ} k 32 in
-    let post = postOf k (330 - k) (spaces 330) in
-    let cut : take (k + r .length) (spaces k ++ (rest ++ post)) ≡ spaces k ++ spoken w =
-    ap (λ (m : ℕ). take (m + r .length) (spaces k ++ (rest ++ post))) (sym n) ∙ take-append-add (spaces k) (rest ++ post) (r .length)
-    ∙ ap (λ (x : List ℕ). spaces k ++ x) (take-append-le (r .length) rest post (there .0) ∙ there .1) in
-    (omega arith, rw (spaced k (omega arith), length-append, length-append) (omega (arith, n, there .0)), rw (spaced k (omega arith)) cut)
+-- ---- texts that were added at the start of a space stand there if they are short
+stands : (xs : List ℕ) (r : ℕ) (space : List ℕ) → length xs ≤ 64 → Adds xs 0 (replicate 64 0) r space → take r space ≡ xs
+stands xs r space h a =
+    let n : length (replicate {A = ℕ} 64 0) ≡ 64 = length-replicate {A = ℕ} 64 0 in
+    adds-there xs (replicate 64 0) r space a (omega (arith, n, a .behind-it)) .1
 
-pub beside-whole : (letter : ℕ) (bytes : List ℕ) (w : Words) (out : List ℕ) (n : ℕ) → n ≡ min (length bytes) 10 → (tail : List ℕ) → tail ≡ spaces (22 - 2 * n) ++ spoken w
-    → {r : Written} {out′ : List ℕ} → Came (placed (letter ∷ 32 ∷ [] ++ (pairs bytes ++ tail)) out) r out′ → Came (placed (besideLine letter bytes w) out) r out′
-beside-whole letter bytes w out n e tail f {r} {out′} =
-    subst (λ (x : List ℕ). Came (placed (letter ∷ 32 ∷ [] ++ (pairs bytes ++ x)) out) r out′) (f ∙ ap (λ (m : ℕ). spaces (22 - 2 * m) ++ spoken w) e)
+report-most : (verdict sent : ℕ) (started : Bool) (transfer : ℕ) → length (report verdict sent started transfer) ≤ 64
+report-most verdict sent started transfer =
+    let entry = by-cases (λ (l : List ℕ). length l ≤ 8) started {x = address transfer} {y = chars "-"} (λ _. omega (arith, length-digits 16 8 transfer)) (λ _. omega arith) in
+    simp length-append (omega (arith, decimal-most verdict, decimal-most sent, entry))
 
--- a phrase that has no numbers
-pub noted-phrase : (letter row : ℕ) (out : List ℕ) (w : Words) → w ≡ phrase row → {r : Written} {out′ : List ℕ}
-    → Came (placed (besideLine letter [] w) out) r out′ → Came (placed (notedLine letter row) out) r out′
-noted-phrase letter row out w e {r} {out′} = subst (λ (w : Words). Came (placed (besideLine letter [] w) out) r out′) e
+bad-most : (n : ℕ) → length (chars "BAD " ++ (decimal n ++ chars "\n")) ≤ 64
+bad-most n = simp length-append (omega (arith, decimal-most n))
+
+-- ---- the lines
+pub sent-some : (host : Bool) (frame out : List ℕ) → (length frame ≡ 0 → ⊥) → {letter : ℕ} → letter ≡ initial host → {r : Written} {out′ : List ℕ}
+    → Came (placed (letter ∷ 32 ∷ [] ++ (pairs frame ++ chars "\n")) out) r out′ → Came (placed (sentLine host frame) out) r out′
+sent-some host frame out h e came = rw (ne-eqb (length frame) 0 h, ← e) came
+
+pub sent-none : (host : Bool) (frame out : List ℕ) → length frame ≡ 0 → Came (placed (sentLine host frame) out) (written 0) out
+sent-none host frame out h = nothing-placed (sentLine host frame) out (rw (eq-eqb (length frame) 0 h))
+
+pub last-whole : (verdict sent : ℕ) (started : Bool) (transfer : ℕ) (memory out : List ℕ) {n : ℕ} {space : List ℕ}
+    → Adds (report verdict sent started transfer) 0 (replicate 64 0) n space → {head : List ℕ} → head ≡ take n space → {r : Written} {out′ : List ℕ}
+    → Came (placed (head ++ (pairs memory ++ chars "\n")) out) r out′ → Came (placed (lastLine verdict sent started transfer memory) out) r out′
+last-whole verdict sent started transfer memory out {n} {space} a e came =
+    rw (e ∙ stands (report verdict sent started transfer) n space (report-most verdict sent started transfer) a) at came
+
+pub bad-some : (refusal : ℕ) (out : List ℕ) → (refusal ≡ 0 → ⊥) → {n : ℕ} {space : List ℕ}
+    → Adds (chars "BAD " ++ (decimal refusal ++ chars "\n")) 0 (replicate 64 0) n space → {text : List ℕ} → text ≡ take n space → {r : Written} {out′ : List ℕ}
+    → Came (placed text out) r out′ → Came (placed (badLine refusal) out) r out′
+bad-some refusal out h {n} {space} a e came =
+    rw (ne-eqb refusal 0 h) (rw (e ∙ stands (chars "BAD " ++ (decimal refusal ++ chars "\n")) n space (bad-most refusal) a) at came)
+
+pub bad-none : (n : ℕ) (out : List ℕ) → n ≡ 0 → Came (placed (badLine n) out) (written 0) out
+bad-none n out h = nothing-placed (badLine n) out (rw (eq-eqb n 0 h))

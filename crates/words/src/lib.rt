@@ -24,7 +24,7 @@ pub fn phrase(row: usize) -> Words
 }
 
 // One of two rows.
-fn either(test: bool, a: usize, b: usize) -> usize
+pub fn either(test: bool, a: usize, b: usize) -> usize
     ensures { λ r. ⌜ r ≡ cond test a b ⌝ }
 {
     if test { a } else { b }

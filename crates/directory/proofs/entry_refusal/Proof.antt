@@ -1,20 +1,22 @@
 -- `directory::entry_refusal` meets its contract: the code asks what the definition asks, in its order.
-use Prim.Native.Nat.{ℕ, _+_, _≤_}
+use Prim.Native.Nat.{_+_}
 use mathlib.Core.Path.{_≡_}
 use native.Mathlib.Omega.{arith}
 use lib.Dec.{leb}
 use borrow.Author.Needs.{needs}
 use borrow.Author.Tests.{le-leb, lt-leb}
 use Rattle.directory.specs.Directory.{addresses, ending, demand, entryRefusal}
-use Rattle.directory.specs.declared.Region.{Region}
 use Rattle.directory.proofs.entry_refusal.Statement.{statement}
 use Rattle.directory.proofs.entry_refusal.Tie as tie
 
--- the region has bytes, all before the directory: its addresses decide
-filed : (directory end : ℕ) (r : Region) → 1 ≤ r .length → r .place + r .length ≤ directory
-    → entryRefusal directory end r ≡ demand (leb (ending r) addresses) 7 (demand (leb end (r .address)) 8 0)
+-- past the tests of the region's bytes its addresses decide
+filed : (c : tie.Else2)
+    → let a = c .before .before .before .before .before .args in
+    entryRefusal (a .directory) (a .end) (a .r) ≡ demand (leb (ending (a .r)) addresses) 7 (demand (leb (a .end) (a .r .address)) 8 0)
 unfolding demand
-filed directory end r some within = rw (le-leb 1 (r .length) some, le-leb (r .place + r .length) directory within)
+filed c =
+    let a = c .before .before .before .before .before .args in
+    rw (le-leb 1 (a .r .length) (omega arith), le-leb (a .r .place + a .r .length) (a .directory) (omega arith))
 
 cast-address : tie.Need-cast-address
 cast-address c = search needs
@@ -47,19 +49,19 @@ returns-3 : tie.Need-returns-3
 unfolding demand
 returns-3 c =
     let a = c .before .before .before .before .before .before .args in
-    rw (filed (a .directory) (a .end) (a .r) (omega arith) (omega arith), lt-leb (ending (a .r)) addresses (omega arith))
+    rw (filed (c .before), lt-leb (ending (a .r)) addresses (omega arith))
 
 returns-4 : tie.Need-returns-4
 unfolding demand
 returns-4 c =
     let a = c .before .before .before .before .before .before .before .args in
-    rw (filed (a .directory) (a .end) (a .r) (omega arith) (omega arith), le-leb (ending (a .r)) addresses (omega arith), lt-leb (a .end) (a .r .address) (omega arith))
+    rw (filed (c .before .before), le-leb (ending (a .r)) addresses (omega arith), lt-leb (a .end) (a .r .address) (omega arith))
 
 returns-5 : tie.Need-returns-5
 unfolding demand
 returns-5 c =
     let a = c .before .before .before .before .before .before .before .args in
-    rw (filed (a .directory) (a .end) (a .r) (omega arith) (omega arith), le-leb (ending (a .r)) addresses (omega arith), le-leb (a .end) (a .r .address) (omega arith))
+    rw (filed (c .before .before), le-leb (ending (a .r)) addresses (omega arith), le-leb (a .end) (a .r .address) (omega arith))
 
 pub entry-refusal-spec : {M : Type 1} → statement M
 entry-refusal-spec =

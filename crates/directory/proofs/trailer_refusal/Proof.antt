@@ -1,21 +1,23 @@
 -- `directory::trailer_refusal` meets its contract: the code asks what the definition asks, in its order.
-use Prim.Native.Nat.{ℕ, _+_, _*_, _≤_}
+use Prim.Native.Nat.{_+_, _*_}
 use mathlib.Core.Path.{_≡_}
 use native.Mathlib.Omega.{arith}
 use lib.Dec.{eqb, leb}
 use borrow.Author.Needs.{needs}
 use borrow.Author.Tests.{le-leb, lt-leb, eq-eqb, ne-eqb}
 use Rattle.directory.specs.Directory.{longest, most, demand, trailerRefusal}
-use Rattle.directory.specs.declared.Trailer.{Trailer}
 use Rattle.directory.proofs.trailer_refusal.Statement.{statement}
 use Rattle.directory.proofs.trailer_refusal.Tie as tie
 
--- the lengths and the zero field are right: the directory decides
-sized : (n : ℕ) (t : Trailer) → 16 ≤ n → n ≤ longest → t .length ≡ n → t .zero ≡ 0
-    → trailerRefusal n t
-    ≡ demand (leb 1 (t .count)) 6 (demand (leb (t .count) most) 6 (demand (eqb (t .directory + 12 * t .count + 16) n) 6 0))
+-- past the tests of the lengths and of the zero field the directory decides
+sized : (c : tie.Else4)
+    → let a = c .before .before .before .before .before .before .before .before .args in
+    trailerRefusal (a .n) (a .t)
+    ≡ demand (leb 1 (a .t .count)) 6 (demand (leb (a .t .count) most) 6 (demand (eqb (a .t .directory + 12 * a .t .count + 16) (a .n)) 6 0))
 unfolding demand
-sized n t long short size zero = rw (le-leb 16 n long, le-leb n longest short, eq-eqb (t .length) n size, eq-eqb (t .zero) 0 zero)
+sized c =
+    let a = c .before .before .before .before .before .before .before .before .args in
+    rw (le-leb 16 (a .n) (omega arith), le-leb (a .n) longest (omega arith), eq-eqb (a .t .length) (a .n) (omega arith), eq-eqb (a .t .zero) 0 (omega arith))
 
 cast-length : tie.Need-cast-length
 cast-length c = search needs
@@ -72,25 +74,25 @@ returns-5 : tie.Need-returns-5
 unfolding demand
 returns-5 c =
     let a = c .before .before .before .before .before .before .before .before .before .before .args in
-    rw (sized (a .n) (a .t) (omega arith) (omega arith) (omega arith) (omega arith), lt-leb 1 (a .t .count) (omega arith))
+    rw (sized (c .before .before), lt-leb 1 (a .t .count) (omega arith))
 
 returns-6 : tie.Need-returns-6
 unfolding demand
 returns-6 c =
     let a = c .before .before .before .before .before .before .before .before .before .before .before .before .args in
-    rw (sized (a .n) (a .t) (omega arith) (omega arith) (omega arith) (omega arith), le-leb 1 (a .t .count) (omega arith), lt-leb (a .t .count) most (omega arith))
+    rw (sized (c .before .before .before .before), le-leb 1 (a .t .count) (omega arith), lt-leb (a .t .count) most (omega arith))
 
 returns-7 : tie.Need-returns-7
 unfolding demand
 returns-7 c =
     let a = c .before .before .before .before .before .before .before .before .before .before .before .before .before .args in
-    rw (sized (a .n) (a .t) (omega arith) (omega arith) (omega arith) (omega arith), le-leb 1 (a .t .count) (omega arith), le-leb (a .t .count) most (omega arith), ne-eqb (a .t .directory + 12 * a .t .count + 16) (a .n) (omega arith))
+    rw (sized (c .before .before .before .before .before), le-leb 1 (a .t .count) (omega arith), le-leb (a .t .count) most (omega arith), ne-eqb (a .t .directory + 12 * a .t .count + 16) (a .n) (omega arith))
 
 returns-8 : tie.Need-returns-8
 unfolding demand
 returns-8 c =
     let a = c .before .before .before .before .before .before .before .before .before .before .before .before .before .args in
-    rw (sized (a .n) (a .t) (omega arith) (omega arith) (omega arith) (omega arith), le-leb 1 (a .t .count) (omega arith), le-leb (a .t .count) most (omega arith), eq-eqb (a .t .directory + 12 * a .t .count + 16) (a .n) (omega arith))
+    rw (sized (c .before .before .before .before .before), le-leb 1 (a .t .count) (omega arith), le-leb (a .t .count) most (omega arith), eq-eqb (a .t .directory + 12 * a .t .count + 16) (a .n) (omega arith))
 
 pub trailer-refusal-spec : {M : Type 1} → statement M
 trailer-refusal-spec =

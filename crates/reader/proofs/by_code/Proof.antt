@@ -1,5 +1,5 @@
 use borrow.Author.Needs.{needs}
-use borrow.Author.Tests.{ne-eqb}
+use borrow.Author.Tests.{ne-eqb, le-ltb}
 use Rattle.message.specs.Read.{find}
 use Rattle.reader.proofs.by_code.Statement.{statement}
 use Rattle.reader.proofs.by_code.Tie as tie
@@ -13,8 +13,7 @@ unfolding find
 memory-load-requires c κs = rw (c .match .keys2) at (c .before .before .pre)
 
 request-program-requires : tie.Need-request-program-requires
-unfolding find
-request-program-requires c κs = rw (c .match .keys3) at (c .before .before .pre)
+request-program-requires c κs = search needs
 
 request-load-requires : tie.Need-request-load-requires
 unfolding find
@@ -38,8 +37,7 @@ of-code-requires-2 : tie.Need-of-code-requires-2
 of-code-requires-2 c κs = search needs
 
 parameters-requires : tie.Need-parameters-requires
-unfolding find
-parameters-requires c κs = rw (c .match .keys10) at (c .before .before .pre)
+parameters-requires c κs = search needs
 
 looping-requires : tie.Need-looping-requires
 unfolding find
@@ -62,7 +60,10 @@ returns-2 c = rw (c .before .match .keys2) (c .memory-load .ensures)
 
 returns-3 : tie.Need-returns-3
 unfolding find
-returns-3 c = rw (c .before .match .keys3) (c .request-program .ensures)
+returns-3 c =
+    let went = c .before in
+    let long = rw (went .match .keys3) at (went .before .before .pre) in
+    rw (went .match .keys3) (rw (le-ltb _ 6 long) at (c .request-program .ensures))
 
 returns-4 : tie.Need-returns-4
 unfolding find
@@ -90,7 +91,10 @@ returns-9 c = rw (c .before .match .keys9) (c .of-code2 .ensures)
 
 returns-10 : tie.Need-returns-10
 unfolding find
-returns-10 c = rw (c .before .match .keys10) (c .parameters .ensures)
+returns-10 c =
+    let went = c .before in
+    let long = rw (went .match .keys10) at (went .before .before .pre) in
+    rw (went .match .keys10) (rw (le-ltb _ 7 long) at (c .parameters .ensures))
 
 returns-11 : tie.Need-returns-11
 unfolding find

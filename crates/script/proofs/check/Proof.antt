@@ -10,7 +10,7 @@ use borrow.Author.Tests.{lt-leb, le-leb, eq-eqb, ne-eqb, not-true, not-false}
 use Rattle.script.specs.Script.{only, isImage, events, imageAt, eventsAt, end, settingsLine, imageLine, eventsLine}
 use Rattle.script.specs.Inner.{settings}
 use Rattle.script.specs.Laws.{Cut, cut, cut-first, index-within}
-use Rattle.script.specs.Answers.{settled, not-settled}
+use Rattle.script.specs.AnswerLaws.{settled, not-settled}
 use Rattle.script.proofs.check.Statement.{statement}
 use Rattle.script.proofs.check.Tie as tie
 

@@ -11,7 +11,7 @@ use borrow.Author.Tests.{lt-leb, le-leb}
 use Rattle.script.specs.Script.{secondAt, thirdAt, memory, size, repeats}
 use Rattle.script.specs.Inner.{number}
 use Rattle.script.specs.Laws.{Cut, cut, cut-first, index-within}
-use Rattle.script.specs.Answers.{in-range, no-number}
+use Rattle.script.specs.AnswerLaws.{in-range, no-number}
 use Rattle.script.proofs.settings.Statement.{statement}
 use Rattle.script.proofs.settings.Tie as tie
 

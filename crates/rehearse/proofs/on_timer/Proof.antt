@@ -1,0 +1,20 @@
+use Rattle.machine_timer.specs.Timer.{machineTimer}
+use Rattle.host_turns.specs.Laws.{turned}
+use borrow.Author.Needs.{needs}
+use Rattle.rehearse.proofs.on_timer.Statement.{statement}
+use Rattle.rehearse.proofs.on_timer.Tie as tie
+
+timer-requires : tie.Need-timer-requires
+timer-requires c κs = search needs
+
+send-requires : tie.Need-send-requires
+send-requires c κs = search needs
+
+same-length : tie.Need-same-length
+same-length c = search needs
+
+returns : tie.Need-returns
+returns c = let a = c .before .before .before .before .before .before .before .before .before .before .args in turned (machineTimer (a .settings) (a .machine) (a .memory .now) (a .reply .now)) (a .queue) (a .places .now) (c .before .before .before .before .before .before .timer .ensures) (c .send .ensures)
+
+pub on-timer-spec : {M : Type 1} → statement M
+on-timer-spec = tie.close (tie.spec timer-requires send-requires same-length returns)

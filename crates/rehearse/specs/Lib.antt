@@ -1,0 +1,3 @@
+pub mod Rehearse
+pub mod Inner
+pub mod Laws

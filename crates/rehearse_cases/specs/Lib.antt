@@ -1,0 +1,4 @@
+pub mod LineLaws
+pub mod AcceptedLaws
+pub mod Inputs
+pub mod Cases

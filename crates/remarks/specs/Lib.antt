@@ -1,0 +1,2 @@
+pub mod Remarks
+pub mod Laws
