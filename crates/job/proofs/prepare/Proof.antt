@@ -1,0 +1,9 @@
+use mathlib.Core.Path.{refl}
+use Rattle.job.proofs.prepare.Statement.{statement}
+use Rattle.job.proofs.prepare.Tie as tie
+
+returns : tie.Need-returns
+returns c = refl
+
+pub prepare-spec : {M : Type 1} → statement M
+prepare-spec = tie.close (tie.spec returns)
