@@ -1,2 +1,5 @@
 pub mod Ring
 pub mod RingLaws
+pub mod World
+pub mod TurnLaws
+pub mod StepLaws
