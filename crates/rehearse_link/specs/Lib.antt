@@ -3,3 +3,5 @@ pub mod RingLaws
 pub mod World
 pub mod TurnLaws
 pub mod StepLaws
+pub mod InputLaws
+pub mod FoldLaws
