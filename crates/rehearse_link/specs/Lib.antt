@@ -5,3 +5,5 @@ pub mod TurnLaws
 pub mod StepLaws
 pub mod InputLaws
 pub mod FoldLaws
+pub mod Rehearsed
+pub mod Theorem
