@@ -1,11 +1,11 @@
 -- A whole rehearsal is a run of the link with queues of 16 frames, from fresh ends on.
-use Prim.Native.Nat.{ℕ, _≤_, _<_}
+use Prim.Native.Nat.{ℕ, _≤_}
 use mathlib.Core.Path.{_≡_, refl, ap, sym, subst, _∙_}
 use mathlib.Core.List.{List, [], _∷_, _++_, append-nil, append-assoc}
 use native.Mathlib.Omega.{arith}
-use lib.ListN.{length, getD, take, replicate, length-replicate, getD-replicate}
+use lib.ListN.{length, replicate, length-replicate, getD-replicate}
 use Rattle.octets.specs.Number.{Octets}
-use Rattle.image.specs.Image.{cutRefusal, widest}
+use Rattle.image.specs.Image.{cutRefusal}
 use Rattle.image.specs.Laws.{ready}
 use Rattle.machine_next.specs.Next as machine
 use Rattle.load_next.specs.declared.Session.{Session}
@@ -13,13 +13,12 @@ use Rattle.queue.specs.Queue.{empty}
 use Rattle.job.specs.declared.Setup.{Setup}
 use Rattle.job.specs.Run.{Run, run, freshEnds, begin, endLine}
 use Rattle.rehearse.specs.Rehearse.{event, eventLine, after, lines, places}
-use Rattle.link.specs.Link.{Frame, Turn, World, Ends, Event, machineTurn, turned, queued}
+use Rattle.link.specs.Link.{Frame, Turn, World, Ends, Event, machineTurn}
 use Rattle.link.specs.MachineEnd.{End, machineEnd}
 use Rattle.link.specs.CallLaws.{told-as}
 use Rattle.link.specs.Bounded.{within, runWithin}
 use Rattle.link.specs.Unrefused.{Unrefused}
 use Rattle.link_load.specs.Model.{loadEnds, freshWorld}
-use Rattle.link_load.specs.Report.{Report}
 use Rattle.link_load.specs.Audit.{bounded-load, bounded-never-refused}
 use Rattle.rehearse_link.specs.Ring.{framesFrom, frames, Ring}
 use Rattle.rehearse_link.specs.World.{world, eventAt, eventsOf}

@@ -1,7 +1,7 @@
 -- An accepted input has accepted settings, an accepted image of bytes and an accepted length of memory.
 use Prim.Native.Nat.{ℕ, zero, suc, _+_, _*_, _≤_, _<_}
 use mathlib.Core.Path.{_≡_, refl}
-use mathlib.Core.Bool.{Bool, _&&_}
+use mathlib.Core.Bool.{_&&_}
 use mathlib.Core.List.{List, [], _∷_}
 use native.Mathlib.Omega.{arith}
 use lib.ListN.{length, take, drop}
@@ -19,7 +19,6 @@ use Rattle.segments.specs.Segments.{checked as imageChecked}
 use Rattle.script.specs.declared.Script.{Script}
 use Rattle.script.specs.Script.{checked}
 use Rattle.step.specs.Step.{first}
-use Rattle.machine_next.specs.declared.Settings.{Settings as MachineSettings}
 use Rattle.machine_next.specs.Next.{requesting, refusal}
 use Rattle.job.specs.Job.{setup, imageIn, bytesOf, Reading, withImage, reading}
 use Rattle.rehearse.specs.Rehearse.{fileOf}

@@ -7,3 +7,4 @@ pub mod InputLaws
 pub mod FoldLaws
 pub mod Rehearsed
 pub mod Theorem
+pub mod Cases

@@ -5,7 +5,6 @@ use mathlib.Core.Bool.{Bool, true, false, cond as pick}
 use mathlib.Core.List.{List, [], _∷_, _++_, append-nil}
 use native.Mathlib.Omega.{arith}
 use native.Mathlib.Numerals.{add-one}
-use native.Mathlib.Nat.{zero-add}
 use lib.ListN.{length, getD, set, take, drop, length-append, length-drop, length-set}
 use lib.Seq.{getD-set-same, getD-set-other, take-at, take-all}
 use lib.Dec.{eqb, leb}
@@ -13,7 +12,7 @@ use borrow.Author.Tests.{le-leb, lt-leb, ne-eqb, eqb-true, eqb-false, leb-true, 
 use Rattle.octets.specs.TestLaws.{by-cases}
 use Rattle.octets.specs.Lay.{put}
 use Rattle.queue.specs.declared.Queue.{Queue}
-use Rattle.queue.specs.Queue.{isFull, front, free, join, leave, first, stored, sent, keeps}
+use Rattle.queue.specs.Queue.{front, free, leave, first, sent, keeps}
 use Rattle.rehearse_link.specs.Ring.{framesFrom, frames, Ring}
 
 -- places that are written elsewhere

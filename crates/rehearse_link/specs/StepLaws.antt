@@ -33,10 +33,10 @@ use Rattle.link.specs.MachineEnd.{End, machineEnd}
 use Rattle.link.specs.Bounded.{within, runWithin}
 use Rattle.link.specs.Unrefused.{Unrefused}
 use Rattle.link_load.specs.Model.{hostEnd, loadEnds}
-use Rattle.rehearse_link.specs.Ring.{framesFrom, frames, Ring}
-use Rattle.rehearse_link.specs.RingLaws.{asFrames, leaves, empty-frames, all-within, leave-ring, sent-ring, sent-frames}
+use Rattle.rehearse_link.specs.Ring.{frames, Ring}
+use Rattle.rehearse_link.specs.RingLaws.{leaves, empty-frames, all-within, leave-ring, sent-ring, sent-frames}
 use Rattle.rehearse_link.specs.World.{world, eventAt}
-use Rattle.rehearse_link.specs.TurnLaws.{Short, Tells, tells, given, acted, no-bytes, Runs, machine-runs, timer-runs, host-short}
+use Rattle.rehearse_link.specs.TurnLaws.{Tells, tells, given, acted, no-bytes, Runs, machine-runs, timer-runs, host-short}
 
 -- What every rehearsal keeps: two rings, a reply buffer of 1,500 bytes, and a machine that is neither Idle nor Offering.
 pub record Room (r : Run) : Type 0 where
@@ -345,9 +345,6 @@ module _ (s : Setup) (file : List ℕ) (narrow : s .host .«segment_size» ≤ w
       let g = leave-ring from-host (r .hostPlaces) (room .hosts) in
       (record { hosts = g; machines = room .machines; reply = room .reply; running = room .running }, (n, go (eqb (from-host .many) 0) refl))
     where
-      rest : List Frame → World Session End
-      rest l = link.withToMachine (world n r) l
-
       cut : within 16 (link.withToMachine (world n r) (frames (leave from-host) (r .hostPlaces))) ≡ world n (hostLeaves (still r) .run)
       cut = same-world refl refl (all-within (leave from-host) (r .hostPlaces) (leave-ring from-host (r .hostPlaces) (room .hosts))) (all-within from-machine (r .machinePlaces) (room .machines))
 

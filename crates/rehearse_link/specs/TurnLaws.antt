@@ -1,7 +1,6 @@
 -- A call of an end that is not refused: its frame has at most 1,500 bytes, the reply buffer keeps its 1,500, and no bytes are no frame.
 use Prim.Native.Nat.{ℕ, _-_, _≤_}
-use mathlib.Core.Path.{_≡_, refl, ap, sym, _∙_}
-use mathlib.Core.Bool.{Bool, true, false, _||_, cond as pick}
+use mathlib.Core.Path.{_≡_, refl}
 use mathlib.Core.List.{List, [], _∷_, _++_}
 use native.Mathlib.Omega.{arith}
 use lib.ListN.{length, take, drop, length-append, length-drop, length-take}
@@ -10,7 +9,6 @@ use lib.Dec.{eqb, ltb}
 use borrow.Author.Tests.{ne-eqb, eqb-true}
 use Rattle.octets.specs.TestLaws.{by-cases}
 use Rattle.message.specs.declared.Fields.{Fields}
-use Rattle.message.specs.Message.{Message}
 use Rattle.message.specs.Read.{fields, part}
 use Rattle.message.specs.Write.{layout}
 use Rattle.message.specs.Laws.{begins}
@@ -23,12 +21,11 @@ use Rattle.step.specs.Laws.{none}
 use Rattle.machine_next.specs.declared.Machine.{Machine}
 use Rattle.machine_next.specs.declared.Settings.{Settings as MachineSettings}
 use Rattle.machine_next.specs.Next.{is, heed, byNumber, onLoad, react, onTimer}
-use Rattle.load_next.specs.declared.Session.{Session}
 use Rattle.load_next.specs.declared.Next.{Next}
-use Rattle.load.specs.Load.{frames, does, segmentMessage}
+use Rattle.load.specs.Load.{frames, does}
 use Rattle.load.specs.Laws.{numbered-short}
 use Rattle.host_turns.specs.Turn.{frameOf}
-use Rattle.link.specs.Link.{Frame, Turn, refuses, acts, turned, queued}
+use Rattle.link.specs.Link.{Frame, refuses, acts, turned, queued}
 use Rattle.link.specs.CallLaws.{told-as}
 use Rattle.rehearse_link.specs.RingLaws.{asFrames}
 
