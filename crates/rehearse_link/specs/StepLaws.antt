@@ -1,5 +1,5 @@
 -- One letter of a rehearsal is one event of the link with queues of 16 frames.
-use Prim.Native.Nat.{ℕ, _+_, _≤_, _<_}
+use Prim.Native.Nat.{ℕ, zero, suc, _+_, _≤_, _<_}
 use mathlib.Core.Path.{_≡_, refl, ap, sym, subst, _∙_}
 use mathlib.Core.Bool.{Bool, true, false, cond as pick}
 use mathlib.Core.List.{List, [], _∷_, _++_, append-nil}
@@ -29,14 +29,14 @@ use Rattle.job.specs.Run.{Run, Step, run, machineMoves, hostMoves}
 use Rattle.rehearse.specs.Rehearse.{machineHanded, machineTimed, hostHanded, hostTimed, still, hostLeaves, machineLeaves, event}
 use Rattle.link.specs.Link as link
 use Rattle.link.specs.Link.{Frame, Turn, refuses, acts, World, Event, own, Own, handToMachine, keepToMachine, dropToMachine, handToHost, keepToHost, dropToHost, machineTurn, hostTurn, handedToMachine, keptToMachine, droppedToMachine, handedToHost, keptToHost, droppedToHost, ownStep, queued}
-use Rattle.link.specs.MachineEnd.{End, machineEnd}
+use Rattle.link.specs.MachineEnd.{End, machineEnd, machineTurned}
 use Rattle.link.specs.Bounded.{within, runWithin}
 use Rattle.link.specs.Unrefused.{Unrefused}
-use Rattle.link_load.specs.Model.{hostEnd, loadEnds}
+use Rattle.link_load.specs.Model.{hostEnd, hostTurned, loadEnds}
 use Rattle.rehearse_link.specs.Ring.{frames, Ring}
 use Rattle.rehearse_link.specs.RingLaws.{leaves, empty-frames, all-within, leave-ring, sent-ring, sent-frames}
 use Rattle.rehearse_link.specs.World.{world, eventAt}
-use Rattle.rehearse_link.specs.TurnLaws.{Tells, tells, given, acted, no-bytes, Runs, machine-runs, timer-runs, host-short}
+use Rattle.rehearse_link.specs.TurnLaws.{Short, Tells, tells, given, acted, no-bytes, Runs, machine-runs, timer-runs, host-short}
 
 -- What every rehearsal keeps: two rings, a reply buffer of 1,500 bytes, and a machine that is neither Idle nor Offering.
 pub record Room (r : Run) : Type 0 where
@@ -54,6 +54,15 @@ pair : {A B : Type 0} (P : A → B → Type 0) (b : Bool) {x y : A} {u v : B} �
 pair P true f g = f
 pair P false f g = g
 
+-- a number is 0, or more
+by-number : {A : Type 0} (k : ℕ) → (k ≡ 0 → A) → (0 < k → A) → A
+by-number zero f g = f refl
+by-number (suc k) f g = g (omega arith)
+
+-- nothing leaves an empty queue
+left-none : (q : Queue) → q .many ≡ 0 → leave q .many ≡ 0
+left-none q e = rw (eq-eqb (q .many) 0 e) e
+
 module _ (s : Setup) (file : List ℕ) (narrow : s .host .«segment_size» ≤ widest) (r : Run) (room : Room r) (n : ℕ)
     (u : Unrefused (loadEnds (s .host) (s .machine) file) (world n r)) where
   abbrev ends : link.Ends Session End ⊥
@@ -70,6 +79,9 @@ module _ (s : Setup) (file : List ℕ) (narrow : s .host .«segment_size» ≤ w
 
   abbrev h : Session
   h = r .ends .session
+
+  abbrev S : ℕ
+  S = s .host .«segment_size»
 
   abbrev from-host : Queue
   from-host = r .ends .«from_host»
@@ -92,290 +104,188 @@ module _ (s : Setup) (file : List ℕ) (narrow : s .host .«segment_size» ≤ w
   P t es = Room (t .run) × ((k : ℕ) × (runWithin 16 ends (world n r) es ≡ world k (t .run)))
 
   -- ---- a turn of an end, with the queue that it leaves of the frames to it
-  abbrev machineRun : Outcome Machine (List ℕ) → Queue → Run
-  machineRun o q =
-      run (record { session = h; machine = o .end; «from_host» = q; «from_machine» = sent from-machine (frameOf o) })
-      (o .lent) (r .hostPlaces) (keeps from-machine (frameOf o) (r .machinePlaces)) (o .reply)
+  abbrev machineStep : Outcome Machine (List ℕ) → Queue → Step
+  machineStep o q =
+      record {
+        run =
+            run (record { session = h; machine = o .end; «from_host» = q; «from_machine» = sent from-machine (frameOf o) })
+            (o .lent) (r .hostPlaces) (keeps from-machine (frameOf o) (r .machinePlaces)) (o .reply);
+        sent = o .answer .length;
+      }
 
-  abbrev hostRun : Outcome Session Unit → Queue → Run
-  hostRun o q =
-      run (record { session = o .end; machine = m; «from_host» = sent from-host (frameOf o); «from_machine» = q })
-      (r .memory) (keeps from-host (frameOf o) (r .hostPlaces)) (r .machinePlaces) (o .reply)
+  abbrev hostStep : Outcome Session Unit → Queue → Step
+  hostStep o q =
+      record {
+        run =
+            run (record { session = o .end; machine = m; «from_host» = sent from-host (frameOf o); «from_machine» = q })
+            (r .memory) (keeps from-host (frameOf o) (r .hostPlaces)) (r .machinePlaces) (o .reply);
+        sent = o .answer .length;
+      }
 
-  module _ (o : Outcome Machine (List ℕ)) (a : Act Machine (List ℕ)) (t : Tells o (a .end) (a .lent) (queued (a .sending))) (run-on : Runs a)
-      (q : Queue) (g : Ring q (r .hostPlaces)) where
-    machine-room : Room (machineRun o q)
-    unfolding Runs
-    machine-room =
+  machine-acts : (o : Outcome Machine (List ℕ)) (a : Act Machine (List ℕ)) → o ≡ gives a b → Runs a → (q : Queue) → Ring q (r .hostPlaces) → (e : Own)
+      → ownStep ends w e ≡ machineTurn w (frames q (r .hostPlaces)) (machineTurned o) → P (machineStep o q) (own e ∷ [])
+  unfolding P runWithin Runs
+  machine-acts o a given-is runs q g e same =
+      let t : Tells o (a .end) (a .lent) (queued (a .sending)) =
+      subst (λ (x : Outcome Machine (List ℕ)). Tells x (a .end) (a .lent) (queued (a .sending))) (sym given-is) (tells a b (room .reply) (runs .1)) in
+      let turn : machineTurned o ≡ acts (machineEnd (a .end) (a .lent)) (queued (a .sending)) = ap machineTurned given-is ∙ acted machineEnd a b in
+      let end : machineEnd (a .end) (a .lent) ≡ machineEnd (o .end) (o .lent) = rw (t .end, t .lent) in
+      let joins : take 16 (w .toHost ++ queued (a .sending)) ≡ frames (sent from-machine (frameOf o)) (keeps from-machine (frameOf o) (r .machinePlaces)) =
+      ap (λ (l : List Frame). take 16 (w .toHost ++ l)) (sym (t .out-is)) ∙ sym (sent-frames from-machine (r .machinePlaces) (room .machines) (frameOf o) (t .short)) in (
         record {
           hosts = g;
           machines = sent-ring from-machine (r .machinePlaces) (room .machines) (frameOf o) (t .short);
           reply = t .reply;
-          running = rw (t .end) (run-on .0);
-        }
+          running = rw (t .end) (runs .0);
+        },
+        (
+          n,
+          ap (within 16) (same ∙ ap (machineTurn w (frames q (r .hostPlaces))) turn) ∙ same-world refl end (all-within q (r .hostPlaces) g) joins,
+        ),
+      )
 
-    machine-world : within 16 (machineTurn (world n r) (frames q (r .hostPlaces)) (acts (machineEnd (a .end) (a .lent)) (queued (a .sending)))) ≡ world n (machineRun o q)
-    machine-world =
-        let e : machineEnd (a .end) (a .lent) ≡ machineEnd (o .end) (o .lent) = rw (t .end, t .lent) in
-        let f : take 16 (frames from-machine (r .machinePlaces) ++ queued (a .sending)) ≡ frames (sent from-machine (frameOf o)) (keeps from-machine (frameOf o) (r .machinePlaces)) =
-        ap (λ (l : List Frame). take 16 (frames from-machine (r .machinePlaces) ++ l)) (sym (t .out-is))
-        ∙ sym (sent-frames from-machine (r .machinePlaces) (room .machines) (frameOf o) (t .short)) in
-        same-world refl e (all-within q (r .hostPlaces) g) f
-
-  module _ (o : Outcome Session Unit) (a : Act Session Unit) (t : Tells o (a .end) (a .lent) (queued (a .sending)))
-      (q : Queue) (g : Ring q (r .machinePlaces)) where
-    host-room : Room (hostRun o q)
-    host-room =
+  host-acts : (o : Outcome Session Unit) (a : Act Session Unit) → o ≡ gives a b → Short (a .sending) → (q : Queue) → Ring q (r .machinePlaces) → (e : Own)
+      → ownStep ends w e ≡ hostTurn w (frames q (r .machinePlaces)) (hostTurned o) → P (hostStep o q) (own e ∷ [])
+  unfolding P runWithin
+  host-acts o a given-is short q g e same =
+      let t : Tells o (a .end) (a .lent) (queued (a .sending)) =
+      subst (λ (x : Outcome Session Unit). Tells x (a .end) (a .lent) (queued (a .sending))) (sym given-is) (tells a b (room .reply) short) in
+      let turn : hostTurned o ≡ acts (a .end) (queued (a .sending)) = ap hostTurned given-is ∙ acted hostEnd a b in
+      let joins : take 16 (w .toMachine ++ queued (a .sending)) ≡ frames (sent from-host (frameOf o)) (keeps from-host (frameOf o) (r .hostPlaces)) =
+      ap (λ (l : List Frame). take 16 (w .toMachine ++ l)) (sym (t .out-is)) ∙ sym (sent-frames from-host (r .hostPlaces) (room .hosts) (frameOf o) (t .short)) in (
         record {
           hosts = sent-ring from-host (r .hostPlaces) (room .hosts) (frameOf o) (t .short);
           machines = g;
           reply = t .reply;
           running = room .running;
-        }
-
-    host-world : within 16 (hostTurn (world n r) (frames q (r .machinePlaces)) (acts (a .end) (queued (a .sending)))) ≡ world (n + length (queued (a .sending))) (hostRun o q)
-    host-world =
-        let f : take 16 (frames from-host (r .hostPlaces) ++ queued (a .sending)) ≡ frames (sent from-host (frameOf o)) (keeps from-host (frameOf o) (r .hostPlaces)) =
-        ap (λ (l : List Frame). take 16 (frames from-host (r .hostPlaces) ++ l)) (sym (t .out-is))
-        ∙ sym (sent-frames from-host (r .hostPlaces) (room .hosts) (frameOf o) (t .short)) in
-        same-world (sym (t .end)) refl f (all-within q (r .machinePlaces) g)
+        },
+        (
+          n + length (queued (a .sending)),
+          ap (within 16) (same ∙ ap (hostTurn w (frames q (r .machinePlaces))) turn) ∙ same-world (sym (t .end)) refl joins (all-within q (r .machinePlaces) g),
+        ),
+      )
 
   -- ---- timers
-  machine-timed : P (machineMoves r (machineTimed s r)) (own (link.machineTimer (r .reply)) ∷ [])
-  unfolding P runWithin Runs
+  machine-timed : P (machineMoves r (machineTimed s r)) (own (link.machineTimer b) ∷ [])
   machine-timed =
       let a = machine.onTimer (s .machine) m (r .memory) in
-      let x = timer-runs (s .machine) m (r .memory) (room .running) in
-      let z : machineTimer (s .machine) m (r .memory) b ≡ gives a b = given machineEnd machineRefusal m (r .memory) b a (u .machineTimer b room-left) in
-      let t : Tells (machineTimer (s .machine) m (r .memory) b) (a .end) (a .lent) (queued (a .sending)) =
-      subst (λ (o : Outcome Machine (List ℕ)). Tells o (a .end) (a .lent) (queued (a .sending))) (sym z) (tells a b (room .reply) (x .1)) in
-      let acted-as : ends .machineTimer (w .machine) b ≡ acts (machineEnd (a .end) (a .lent)) (queued (a .sending)) =
-      ap (link.turned machineEnd) z ∙ acted machineEnd a b in (
-        machine-room _ a t x from-host (room .hosts),
-        (n, ap (λ (y : Turn End). within 16 (machineTurn (world n r) (frames from-host (r .hostPlaces)) y)) acted-as ∙ machine-world _ a t x from-host (room .hosts)),
-      )
+      machine-acts (machineTimed s r) a (given machineEnd machineRefusal m (r .memory) b a (u .machineTimer b room-left)) (timer-runs (s .machine) m (r .memory) (room .running))
+      from-host (room .hosts) (link.machineTimer b) refl
 
-  host-timed : P (hostMoves r (hostTimed s r file)) (own (link.hostTimer (r .reply)) ∷ [])
-  unfolding P runWithin
+  host-timed : P (hostMoves r (hostTimed s r file)) (own (link.hostTimer b) ∷ [])
   host-timed =
-      let next = load-next.onTimer (load.frames file (s .host .«segment_size»)) (s .host .repeats) h in
-      let a = load.does file (s .host .«segment_size») next in
-      let z : loadTimer (s .host) h file b ≡ gives a b = given hostEnd hostRefusal h tt b a (u .hostTimer b room-left) in
-      let t : Tells (loadTimer (s .host) h file b) (a .end) (a .lent) (queued (a .sending)) =
-      subst (λ (o : Outcome Session Unit). Tells o (a .end) (a .lent) (queued (a .sending))) (sym z) (tells a b (room .reply) (host-short file (s .host .«segment_size») next narrow)) in
-      let acted-as : ends .hostTimer (w .host) b ≡ acts (a .end) (queued (a .sending)) = ap (link.turned hostEnd) z ∙ acted hostEnd a b in (
-        host-room _ a t from-machine (room .machines),
-        (_, ap (λ (y : Turn Session). within 16 (hostTurn (world n r) (frames from-machine (r .machinePlaces)) y)) acted-as ∙ host-world _ a t from-machine (room .machines)),
-      )
+      let next = load-next.onTimer (load.frames file S) (s .host .repeats) h in
+      let a = load.does file S next in
+      host-acts (hostTimed s r file) a (given hostEnd hostRefusal h tt b a (u .hostTimer b room-left)) (host-short file S next narrow) from-machine (room .machines) (link.hostTimer b) refl
 
-  -- ---- the first frame of a queue
-  -- none waits: nothing happens
-  module _ (e : from-host .many ≡ 0) where
-    no-host-frame : machineHanded s r ≡ gives (ignores m (r .memory)) b
-    no-host-frame = rw (eq-eqb (from-host .many) 0 e)
+  -- ---- the first frame of a queue, handed over: the end acts on it, if there is one
+  abbrev first-host : Frame
+  first-host = queue.first from-host (r .hostPlaces)
 
-    nothing-to-machine : (q : Queue) → Ring q (r .hostPlaces) → q .many ≡ 0
-        → Room (machineRun (machineHanded s r) q) × ((k : ℕ) × (within 16 (world n r) ≡ world k (machineRun (machineHanded s r) q)))
-    unfolding Runs
-    nothing-to-machine q g z =
-        let a : Act Machine (List ℕ) = ignores m (r .memory) in
-        let x : Runs a = (room .running, tt) in
-        let t : Tells (machineHanded s r) m (r .memory) [] =
-        subst (λ (o : Outcome Machine (List ℕ)). Tells o m (r .memory) []) (sym no-host-frame) (tells a b (room .reply) tt) in
-        let same : within 16 (world n r) ≡ within 16 (machineTurn (world n r) (frames q (r .hostPlaces)) (acts (w .machine) [])) =
-        rw (append-nil, empty-frames from-host (r .hostPlaces) (room .hosts) e, empty-frames q (r .hostPlaces) g z) in
-        (machine-room _ a t x q g, (n, same ∙ machine-world _ a t x q g))
+  abbrev first-machine : Frame
+  first-machine = queue.first from-machine (r .machinePlaces)
 
-  module _ (e : from-machine .many ≡ 0) where
-    no-machine-frame : hostHanded s r file ≡ gives (ignores h tt) b
-    no-machine-frame = rw (eq-eqb (from-machine .many) 0 e)
+  to-machine : (q : Queue) → Ring q (r .hostPlaces) → (from-host .many ≡ 0 → q .many ≡ 0) → (e : Own) → (w .toMachine ≡ [] → ownStep ends w e ≡ w)
+      → (0 < from-host .many → ownStep ends w e ≡ machineTurn w (frames q (r .hostPlaces)) (ends .machineFrame (w .machine) first-host b))
+      → P (machineStep (machineHanded s r) q) (own e ∷ [])
+  unfolding Runs
+  to-machine q g left e without with-one = by-number (from-host .many) none some
+    where
+      none : from-host .many ≡ 0 → P (machineStep (machineHanded s r) q) (own e ∷ [])
+      none z =
+          let empty = empty-frames from-host (r .hostPlaces) (room .hosts) z in
+          let o : machineHanded s r ≡ gives (ignores m (r .memory)) b = rw (eq-eqb (from-host .many) 0 z) in
+          let same : w ≡ machineTurn w (frames q (r .hostPlaces)) (acts (w .machine) []) = rw (append-nil, empty, empty-frames q (r .hostPlaces) g (left z)) in
+          machine-acts (machineHanded s r) (ignores m (r .memory)) o (room .running, tt) q g e
+          (without empty ∙ same ∙ ap (λ (x : Outcome Machine (List ℕ)). machineTurn w (frames q (r .hostPlaces)) (machineTurned x)) (sym o))
 
-    nothing-to-host : (q : Queue) → Ring q (r .machinePlaces) → q .many ≡ 0
-        → Room (hostRun (hostHanded s r file) q) × ((k : ℕ) × (within 16 (world n r) ≡ world k (hostRun (hostHanded s r file) q)))
-    nothing-to-host q g z =
-        let a : Act Session Unit = ignores h tt in
-        let t : Tells (hostHanded s r file) h tt [] =
-        subst (λ (o : Outcome Session Unit). Tells o h tt []) (sym no-machine-frame) (tells a b (room .reply) tt) in
-        let same : within 16 (world n r) ≡ within 16 (hostTurn (world n r) (frames q (r .machinePlaces)) (acts h [])) =
-        let none : n ≡ n + 0 = omega arith in
-        rw (append-nil, empty-frames from-machine (r .machinePlaces) (room .machines) e, empty-frames q (r .machinePlaces) g z, ← none) in
-        (host-room _ a t q g, (_, same ∙ host-world _ a t q g))
+      some : 0 < from-host .many → P (machineStep (machineHanded s r) q) (own e ∷ [])
+      some z =
+          let f = first-host in
+          let react : Fields → Act Machine (List ℕ) = λ x. machine.react (s .machine) m x f (r .memory) in
+          let accepted = u .machineFrame f (frames (leave from-host) (r .hostPlaces)) b (leaves from-host (r .hostPlaces) z) room-left in
+          let bytes : length f ≡ 0 → ⊥ = λ k. accepted (no-bytes machineEnd machineRefusal f m (r .memory) b react k) in
+          let handed : machineHanded s r ≡ machineFrame (s .machine) m f (r .memory) b = rw (ne-eqb (length f) 0 bytes) in
+          machine-acts (machineHanded s r) (react (fields f)) (handed ∙ given machineEnd (first (machineRefusal ∷ fields f .refusal ∷ [])) m (r .memory) b (react (fields f)) accepted)
+          (machine-runs (s .machine) m (r .memory) (room .running) (fields f) f) q g e
+          (with-one z ∙ ap (λ (x : Outcome Machine (List ℕ)). machineTurn w (frames q (r .hostPlaces)) (machineTurned x)) (sym handed))
 
-  -- one waits: the call is made on it
-  module _ (some : 0 < from-host .many) where
-    abbrev f : Frame
-    f = queue.first from-host (r .hostPlaces)
+  to-host : (q : Queue) → Ring q (r .machinePlaces) → (from-machine .many ≡ 0 → q .many ≡ 0) → (e : Own) → (w .toHost ≡ [] → ownStep ends w e ≡ w)
+      → (0 < from-machine .many → ownStep ends w e ≡ hostTurn w (frames q (r .machinePlaces)) (ends .hostFrame (w .host) first-machine b))
+      → P (hostStep (hostHanded s r file) q) (own e ∷ [])
+  to-host q g left e without with-one = by-number (from-machine .many) none some
+    where
+      none : from-machine .many ≡ 0 → P (hostStep (hostHanded s r file) q) (own e ∷ [])
+      none z =
+          let empty = empty-frames from-machine (r .machinePlaces) (room .machines) z in
+          let o : hostHanded s r file ≡ gives (ignores h tt) b = rw (eq-eqb (from-machine .many) 0 z) in
+          let count : n ≡ n + 0 = omega arith in
+          let same : w ≡ hostTurn w (frames q (r .machinePlaces)) (acts h []) = rw (append-nil, empty, empty-frames q (r .machinePlaces) g (left z), ← count) in
+          host-acts (hostHanded s r file) (ignores h tt) o tt q g e
+          (without empty ∙ same ∙ ap (λ (x : Outcome Session Unit). hostTurn w (frames q (r .machinePlaces)) (hostTurned x)) (sym o))
 
-    abbrev machineDoes : Act Machine (List ℕ)
-    machineDoes = machine.react (s .machine) m (fields f) f (r .memory)
+      some : 0 < from-machine .many → P (hostStep (hostHanded s r file) q) (own e ∷ [])
+      some z =
+          let f = first-machine in
+          let react : Fields → Act Session Unit = λ x. load.does file S (load-next.react (load.frames file S) h x) in
+          let accepted = u .hostFrame f (frames (leave from-machine) (r .machinePlaces)) b (leaves from-machine (r .machinePlaces) z) room-left in
+          let bytes : length f ≡ 0 → ⊥ = λ k. accepted (no-bytes hostEnd hostRefusal f h tt b react k) in
+          let handed : hostHanded s r file ≡ loadFrame (s .host) h file f b = rw (ne-eqb (length f) 0 bytes) in
+          host-acts (hostHanded s r file) (react (fields f)) (handed ∙ given hostEnd (first (hostRefusal ∷ fields f .refusal ∷ [])) h tt b (react (fields f)) accepted)
+          (host-short file S (load-next.react (load.frames file S) h (fields f)) narrow) q g e
+          (with-one z ∙ ap (λ (x : Outcome Session Unit). hostTurn w (frames q (r .machinePlaces)) (hostTurned x)) (sym handed))
 
-    not-refused : ends .machineFrame (w .machine) f b ≡ refuses → ⊥
-    not-refused = u .machineFrame f (frames (leave from-host) (r .hostPlaces)) b (leaves from-host (r .hostPlaces) some) room-left
+  -- ---- it leaves, or is kept
+  hosts-left : Ring (leave from-host) (r .hostPlaces)
+  hosts-left = leave-ring from-host (r .hostPlaces) (room .hosts)
 
-    is-some : length f ≡ 0 → ⊥
-    is-some z = not-refused (no-bytes machineEnd machineRefusal f m (r .memory) b (λ (x : Fields). machine.react (s .machine) m x f (r .memory)) z)
-
-    machine-called : machineFrame (s .machine) m f (r .memory) b ≡ gives machineDoes b
-    machine-called = given machineEnd (first (machineRefusal ∷ fields f .refusal ∷ [])) m (r .memory) b machineDoes not-refused
-
-    machine-turned : ends .machineFrame (w .machine) f b ≡ acts (machineEnd (machineDoes .end) (machineDoes .lent)) (queued (machineDoes .sending))
-    machine-turned = ap (link.turned machineEnd) machine-called ∙ acted machineEnd machineDoes b
-
-    machine-handed : machineHanded s r ≡ gives machineDoes b
-    machine-handed = (rw (ne-eqb (length f) 0 is-some)) ∙ machine-called
-
-    something-to-machine : (q : Queue) (g : Ring q (r .hostPlaces)) → Room (machineRun (machineHanded s r) q)
-        × ((k : ℕ) × (within 16 (machineTurn (world n r) (frames q (r .hostPlaces)) (ends .machineFrame (w .machine) f b)) ≡ world k (machineRun (machineHanded s r) q)))
-    unfolding Runs
-    something-to-machine q g =
-        let a = machineDoes in
-        let x = machine-runs (s .machine) m (r .memory) (room .running) (fields f) f in
-        let t : Tells (machineHanded s r) (a .end) (a .lent) (queued (a .sending)) =
-        subst (λ (o : Outcome Machine (List ℕ)). Tells o (a .end) (a .lent) (queued (a .sending))) (sym machine-handed) (tells a b (room .reply) (x .1)) in (
-          machine-room _ a t x q g,
-          (n, ap (λ (y : Turn End). within 16 (machineTurn (world n r) (frames q (r .hostPlaces)) y)) machine-turned ∙ machine-world _ a t x q g),
-        )
-
-  module _ (some : 0 < from-machine .many) where
-    abbrev f′ : Frame
-    f′ = queue.first from-machine (r .machinePlaces)
-
-    abbrev hostDoes : Act Session Unit
-    hostDoes = load.does file (s .host .«segment_size») (load-next.react (load.frames file (s .host .«segment_size»)) h (fields f′))
-
-    host-not-refused : ends .hostFrame (w .host) f′ b ≡ refuses → ⊥
-    host-not-refused = u .hostFrame f′ (frames (leave from-machine) (r .machinePlaces)) b (leaves from-machine (r .machinePlaces) some) room-left
-
-    host-is-some : length f′ ≡ 0 → ⊥
-    host-is-some z =
-        host-not-refused
-        (no-bytes hostEnd hostRefusal f′ h tt b (λ (x : Fields). load.does file (s .host .«segment_size») (load-next.react (load.frames file (s .host .«segment_size»)) h x)) z)
-
-    host-called : loadFrame (s .host) h file f′ b ≡ gives hostDoes b
-    host-called = given hostEnd (first (hostRefusal ∷ fields f′ .refusal ∷ [])) h tt b hostDoes host-not-refused
-
-    host-turned : ends .hostFrame (w .host) f′ b ≡ acts (hostDoes .end) (queued (hostDoes .sending))
-    host-turned = ap (link.turned hostEnd) host-called ∙ acted hostEnd hostDoes b
-
-    host-handed : hostHanded s r file ≡ gives hostDoes b
-    host-handed = (rw (ne-eqb (length f′) 0 host-is-some)) ∙ host-called
-
-    something-to-host : (q : Queue) (g : Ring q (r .machinePlaces)) → Room (hostRun (hostHanded s r file) q)
-        × ((k : ℕ) × (within 16 (hostTurn (world n r) (frames q (r .machinePlaces)) (ends .hostFrame (w .host) f′ b)) ≡ world k (hostRun (hostHanded s r file) q)))
-    something-to-host q g =
-        let a = hostDoes in
-        let t : Tells (hostHanded s r file) (a .end) (a .lent) (queued (a .sending)) =
-        subst (λ (o : Outcome Session Unit). Tells o (a .end) (a .lent) (queued (a .sending))) (sym host-handed) (tells a b (room .reply) (host-short file (s .host .«segment_size») (load-next.react (load.frames file (s .host .«segment_size»)) h (fields f′)) narrow)) in (
-          host-room _ a t q g,
-          (_, ap (λ (y : Turn Session). within 16 (hostTurn (world n r) (frames q (r .machinePlaces)) y)) host-turned ∙ host-world _ a t q g),
-        )
-
-  -- what the queue to an end is after its first frame left, if there was one
-  left-none : (q : Queue) → q .many ≡ 0 → leave q .many ≡ 0
-  left-none q e = rw (eq-eqb (q .many) 0 e) e
-
-  -- a step's end and its event, where the event comes to another world
-  moved : (t : Step) (e : Own) (v : World Session End) → within 16 (ownStep ends (world n r) e) ≡ within 16 v
-      → Room (t .run) × ((k : ℕ) × (within 16 v ≡ world k (t .run))) → P t (own e ∷ [])
-  unfolding P runWithin
-  moved t e v same x = (x .0, (x .1 .0, same ∙ x .1 .1))
+  machines-left : Ring (leave from-machine) (r .machinePlaces)
+  machines-left = leave-ring from-machine (r .machinePlaces) (room .machines)
 
   hands-to-machine : P (hostLeaves (machineMoves r (machineHanded s r))) (own (handToMachine b) ∷ [])
-  hands-to-machine = go (eqb (from-host .many) 0) refl
-    where
-      go : (c : Bool) → eqb (from-host .many) 0 ≡ c → P (hostLeaves (machineMoves r (machineHanded s r))) (own (handToMachine b) ∷ [])
-      go true c =
-          let z = eqb-true (from-host .many) 0 c in
-          moved _ (handToMachine b) w (ap (λ (l : List Frame). within 16 (handedToMachine ends w b l)) (empty-frames from-host (r .hostPlaces) (room .hosts) z))
-          (nothing-to-machine z (leave from-host) (leave-ring from-host (r .hostPlaces) (room .hosts)) (left-none from-host z))
-      go false c =
-          let z : 0 < from-host .many = omega (arith, eqb-false (from-host .many) 0 c) in
-          moved _ (handToMachine b) (machineTurn w (frames (leave from-host) (r .hostPlaces)) (ends .machineFrame (w .machine) (f z) b))
-          (ap (λ (l : List Frame). within 16 (handedToMachine ends w b l)) (leaves from-host (r .hostPlaces) z))
-          (something-to-machine z (leave from-host) (leave-ring from-host (r .hostPlaces) (room .hosts)))
+  hands-to-machine =
+      to-machine (leave from-host) hosts-left (left-none from-host) (handToMachine b) (ap (handedToMachine ends w b))
+      (λ z. ap (handedToMachine ends w b) (leaves from-host (r .hostPlaces) z))
 
   keeps-to-machine : P (machineMoves r (machineHanded s r)) (own (keepToMachine b) ∷ [])
-  keeps-to-machine = go (eqb (from-host .many) 0) refl
-    where
-      go : (c : Bool) → eqb (from-host .many) 0 ≡ c → P (machineMoves r (machineHanded s r)) (own (keepToMachine b) ∷ [])
-      go true c =
-          let z = eqb-true (from-host .many) 0 c in
-          moved _ (keepToMachine b) w (ap (λ (l : List Frame). within 16 (keptToMachine ends w b l)) (empty-frames from-host (r .hostPlaces) (room .hosts) z))
-          (nothing-to-machine z from-host (room .hosts) z)
-      go false c =
-          let z : 0 < from-host .many = omega (arith, eqb-false (from-host .many) 0 c) in
-          let e = leaves from-host (r .hostPlaces) z in
-          moved _ (keepToMachine b) (machineTurn w (frames from-host (r .hostPlaces)) (ends .machineFrame (w .machine) (f z) b))
-          (ap (λ (l : List Frame). within 16 (keptToMachine ends w b l)) e ∙ ap (λ (l : List Frame). within 16 (machineTurn w l (ends .machineFrame (w .machine) (f z) b))) (sym e))
-          (something-to-machine z from-host (room .hosts))
+  keeps-to-machine =
+      to-machine from-host (room .hosts) (λ z. z) (keepToMachine b) (ap (keptToMachine ends w b))
+      (λ z. let e = leaves from-host (r .hostPlaces) z in ap (keptToMachine ends w b) e ∙ ap (λ (l : List Frame). machineTurn w l (ends .machineFrame (w .machine) first-host b)) (sym e))
 
   hands-to-host : P (machineLeaves (hostMoves r (hostHanded s r file))) (own (handToHost b) ∷ [])
-  hands-to-host = go (eqb (from-machine .many) 0) refl
-    where
-      go : (c : Bool) → eqb (from-machine .many) 0 ≡ c → P (machineLeaves (hostMoves r (hostHanded s r file))) (own (handToHost b) ∷ [])
-      go true c =
-          let z = eqb-true (from-machine .many) 0 c in
-          moved _ (handToHost b) w (ap (λ (l : List Frame). within 16 (handedToHost ends w b l)) (empty-frames from-machine (r .machinePlaces) (room .machines) z))
-          (nothing-to-host z (leave from-machine) (leave-ring from-machine (r .machinePlaces) (room .machines)) (left-none from-machine z))
-      go false c =
-          let z : 0 < from-machine .many = omega (arith, eqb-false (from-machine .many) 0 c) in
-          moved _ (handToHost b) (hostTurn w (frames (leave from-machine) (r .machinePlaces)) (ends .hostFrame (w .host) (f′ z) b))
-          (ap (λ (l : List Frame). within 16 (handedToHost ends w b l)) (leaves from-machine (r .machinePlaces) z))
-          (something-to-host z (leave from-machine) (leave-ring from-machine (r .machinePlaces) (room .machines)))
+  hands-to-host =
+      to-host (leave from-machine) machines-left (left-none from-machine) (handToHost b) (ap (handedToHost ends w b))
+      (λ z. ap (handedToHost ends w b) (leaves from-machine (r .machinePlaces) z))
 
   keeps-to-host : P (hostMoves r (hostHanded s r file)) (own (keepToHost b) ∷ [])
-  keeps-to-host = go (eqb (from-machine .many) 0) refl
-    where
-      go : (c : Bool) → eqb (from-machine .many) 0 ≡ c → P (hostMoves r (hostHanded s r file)) (own (keepToHost b) ∷ [])
-      go true c =
-          let z = eqb-true (from-machine .many) 0 c in
-          moved _ (keepToHost b) w (ap (λ (l : List Frame). within 16 (keptToHost ends w b l)) (empty-frames from-machine (r .machinePlaces) (room .machines) z))
-          (nothing-to-host z from-machine (room .machines) z)
-      go false c =
-          let z : 0 < from-machine .many = omega (arith, eqb-false (from-machine .many) 0 c) in
-          let e = leaves from-machine (r .machinePlaces) z in
-          moved _ (keepToHost b) (hostTurn w (frames from-machine (r .machinePlaces)) (ends .hostFrame (w .host) (f′ z) b))
-          (ap (λ (l : List Frame). within 16 (keptToHost ends w b l)) e ∙ ap (λ (l : List Frame). within 16 (hostTurn w l (ends .hostFrame (w .host) (f′ z) b))) (sym e))
-          (something-to-host z from-machine (room .machines))
+  keeps-to-host =
+      to-host from-machine (room .machines) (λ z. z) (keepToHost b) (ap (keptToHost ends w b))
+      (λ z. let e = leaves from-machine (r .machinePlaces) z in ap (keptToHost ends w b) e ∙ ap (λ (l : List Frame). hostTurn w l (ends .hostFrame (w .host) first-machine b)) (sym e))
 
   -- ---- a frame is dropped
   drops-to-machine : P (hostLeaves (still r)) (own dropToMachine ∷ [])
   unfolding P runWithin
   drops-to-machine =
-      let g = leave-ring from-host (r .hostPlaces) (room .hosts) in
-      (record { hosts = g; machines = room .machines; reply = room .reply; running = room .running }, (n, go (eqb (from-host .many) 0) refl))
-    where
-      cut : within 16 (link.withToMachine (world n r) (frames (leave from-host) (r .hostPlaces))) ≡ world n (hostLeaves (still r) .run)
-      cut = same-world refl refl (all-within (leave from-host) (r .hostPlaces) (leave-ring from-host (r .hostPlaces) (room .hosts))) (all-within from-machine (r .machinePlaces) (room .machines))
-
-      go : (c : Bool) → eqb (from-host .many) 0 ≡ c → within 16 (droppedToMachine ends (world n r) (frames from-host (r .hostPlaces))) ≡ world n (hostLeaves (still r) .run)
-      go true c =
-          let z = eqb-true (from-host .many) 0 c in
-          let e = empty-frames from-host (r .hostPlaces) (room .hosts) z in
-          let i = empty-frames (leave from-host) (r .hostPlaces) (leave-ring from-host (r .hostPlaces) (room .hosts)) (left-none from-host z) in
-          ap (λ (l : List Frame). within 16 (droppedToMachine ends (world n r) l)) e ∙ ap (λ (l : List Frame). within 16 (link.withToMachine (world n r) l)) (e ∙ sym i) ∙ cut
-      go false c =
-          let z : 0 < from-host .many = omega (arith, eqb-false (from-host .many) 0 c) in
-          ap (λ (l : List Frame). within 16 (droppedToMachine ends (world n r) l)) (leaves from-host (r .hostPlaces) z) ∙ cut
+      let dropped : droppedToMachine ends w (w .toMachine) ≡ link.withToMachine w (frames (leave from-host) (r .hostPlaces)) =
+      by-number (from-host .many) (λ z.
+      let empty = empty-frames from-host (r .hostPlaces) (room .hosts) z in
+      ap (droppedToMachine ends w) empty ∙ ap (link.withToMachine w) (empty ∙ sym (empty-frames (leave from-host) (r .hostPlaces) hosts-left (left-none from-host z))))
+      (λ z. ap (droppedToMachine ends w) (leaves from-host (r .hostPlaces) z)) in (
+        record { hosts = hosts-left; machines = room .machines; reply = room .reply; running = room .running },
+        (n, ap (within 16) dropped ∙ same-world refl refl (all-within (leave from-host) (r .hostPlaces) hosts-left) (all-within from-machine (r .machinePlaces) (room .machines))),
+      )
 
   drops-to-host : P (machineLeaves (still r)) (own dropToHost ∷ [])
   unfolding P runWithin
   drops-to-host =
-      let g = leave-ring from-machine (r .machinePlaces) (room .machines) in
-      (record { hosts = room .hosts; machines = g; reply = room .reply; running = room .running }, (n, go (eqb (from-machine .many) 0) refl))
-    where
-      cut : within 16 (link.withToHost (world n r) (frames (leave from-machine) (r .machinePlaces))) ≡ world n (machineLeaves (still r) .run)
-      cut = same-world refl refl (all-within from-host (r .hostPlaces) (room .hosts)) (all-within (leave from-machine) (r .machinePlaces) (leave-ring from-machine (r .machinePlaces) (room .machines)))
-
-      go : (c : Bool) → eqb (from-machine .many) 0 ≡ c → within 16 (droppedToHost ends (world n r) (frames from-machine (r .machinePlaces))) ≡ world n (machineLeaves (still r) .run)
-      go true c =
-          let z = eqb-true (from-machine .many) 0 c in
-          let e = empty-frames from-machine (r .machinePlaces) (room .machines) z in
-          let i = empty-frames (leave from-machine) (r .machinePlaces) (leave-ring from-machine (r .machinePlaces) (room .machines)) (left-none from-machine z) in
-          ap (λ (l : List Frame). within 16 (droppedToHost ends (world n r) l)) e ∙ ap (λ (l : List Frame). within 16 (link.withToHost (world n r) l)) (e ∙ sym i) ∙ cut
-      go false c =
-          let z : 0 < from-machine .many = omega (arith, eqb-false (from-machine .many) 0 c) in
-          ap (λ (l : List Frame). within 16 (droppedToHost ends (world n r) l)) (leaves from-machine (r .machinePlaces) z) ∙ cut
+      let dropped : droppedToHost ends w (w .toHost) ≡ link.withToHost w (frames (leave from-machine) (r .machinePlaces)) =
+      by-number (from-machine .many) (λ z.
+      let empty = empty-frames from-machine (r .machinePlaces) (room .machines) z in
+      ap (droppedToHost ends w) empty ∙ ap (link.withToHost w) (empty ∙ sym (empty-frames (leave from-machine) (r .machinePlaces) machines-left (left-none from-machine z))))
+      (λ z. ap (droppedToHost ends w) (leaves from-machine (r .machinePlaces) z)) in (
+        record { hosts = room .hosts; machines = machines-left; reply = room .reply; running = room .running },
+        (n, ap (within 16) dropped ∙ same-world refl refl (all-within from-host (r .hostPlaces) (room .hosts)) (all-within (leave from-machine) (r .machinePlaces) machines-left)),
+      )
 
   -- a letter that is none
   stays : P (still r) []

@@ -1,4 +1,4 @@
--- Every rehearsal is a run of the link: for every accepted input, of any bytes,
+-- Every rehearsal is a run of the link (PROTOCOL 6, 'Link'). For every accepted input:
 --     linked      its letters are events of the link with queues of 16 frames, and it ends in the world that they lead to
 --     on-link     so there is a list of the link's own events after which both ends and the count of host frames are the same
 --     last-line   the transcript's last line speaks of that world: verdict, host frames, transfer address and memory
