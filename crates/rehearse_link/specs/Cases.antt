@@ -1,7 +1,7 @@
 -- The theorem has instances: the worked input (PROTOCOL 8, 'Rehearsal') is accepted, its verdict is 1, and so its image is loaded.
 use Prim.Native.Nat.{ℕ}
 use mathlib.Core.Path.{_≡_, refl}
-use mathlib.Core.List.{List, [], _∷_, _++_}
+use mathlib.Core.List.{List}
 use Rattle.bytes.specs.Bytes.{indexOf}
 use Rattle.octets.specs.Number.{number, low}
 use Rattle.memory.specs.Memory.{fits}

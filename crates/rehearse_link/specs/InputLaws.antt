@@ -1,7 +1,7 @@
--- An accepted input has accepted settings, an accepted image of bytes and an accepted length of memory.
+-- An accepted input has accepted settings, an accepted image of bytes, an accepted length of memory, and letters that are events.
 use Prim.Native.Nat.{ℕ, zero, suc, _+_, _*_, _≤_, _<_}
 use mathlib.Core.Path.{_≡_, refl}
-use mathlib.Core.Bool.{_&&_}
+use mathlib.Core.Bool.{true, _&&_}
 use mathlib.Core.List.{List, [], _∷_}
 use native.Mathlib.Omega.{arith}
 use lib.ListN.{length, take, drop}
@@ -17,11 +17,11 @@ use Rattle.image.specs.Image.{cutRefusal}
 use Rattle.segments.specs.declared.Image.{Image}
 use Rattle.segments.specs.Segments.{checked as imageChecked}
 use Rattle.script.specs.declared.Script.{Script}
-use Rattle.script.specs.Script.{checked}
+use Rattle.script.specs.Script.{only, events, checked}
 use Rattle.step.specs.Step.{first}
 use Rattle.machine_next.specs.Next.{requesting, refusal}
 use Rattle.job.specs.Job.{setup, imageIn, bytesOf, Reading, withImage, reading}
-use Rattle.rehearse.specs.Rehearse.{fileOf}
+use Rattle.rehearse.specs.Rehearse.{lettersOf, fileOf}
 use Rattle.rehearse_cases.specs.AcceptedLaws.{accepted}
 
 -- ---- what hexadecimal spells is bytes
@@ -56,11 +56,12 @@ laid-octets (spelled s) out w =
     (λ _. rw (take-at s (drop (length s) out) (length s) refl) w)
 
 -- ---- an input that is not refused
-pub record Ready (r : Reading) : Type 0 where
+pub record Ready (input : List ℕ) (r : Reading) : Type 0 where
   pub image : cutRefusal (fileOf r) (r .job .setup .host .«segment_size») ≡ 0
   pub octets : Octets (fileOf r)
   pub few : r .job .setup .host .repeats ≤ 255
   pub settings : refusal (r .job .setup .machine) requesting (r .job .script .memory) 1500 ≡ 0
+  pub letters : only events (lettersOf input (r .job)) ≡ true
 
 image-whole : (file : List ℕ) (S : ℕ) → imageChecked file S .refusal ≡ 0 → cutRefusal file S ≡ 0
 image-whole file S =
@@ -70,13 +71,13 @@ accepts : (t : Script) (size : ℕ) → size ≤ 4096 → refusal (setup t .mach
 unfolding first
 accepts t size h = rw (le-leb size 16777216 (omega arith))
 
-pub ready : (input space : List ℕ) → reading input space .job .refusal ≡ 0 → Ready (reading input space)
+pub ready : (input space : List ℕ) → reading input space .job .refusal ≡ 0 → Ready input (reading input space)
 ready input space =
-    by-cases (λ (r : Reading). r .job .refusal ≡ 0 → Ready r) (eqb (checked input .refusal) 0)
+    by-cases (λ (r : Reading). r .job .refusal ≡ 0 → Ready input r) (eqb (checked input .refusal) 0)
     (λ e z. whole (checked input) refl (eqb-true (checked input .refusal) 0 e) z) (λ e z. absurd (eqb-false (checked input .refusal) 0 e z))
   where
     whole : (t : Script) → t ≡ checked input → t .refusal ≡ 0 → imageChecked (bytesOf (imageIn input t space)) (t .«segment_size») .refusal ≡ 0
-        → Ready (withImage t (imageIn input t space))
+        → Ready input (withImage t (imageIn input t space))
     whole t e h z =
         let a = accepted input t e h in
         record {
@@ -84,4 +85,5 @@ ready input space =
           octets = laid-octets (hexadecimal (take (t .«image_length») (drop (t .«image_at») input))) space (spells (take (t .«image_length») (drop (t .«image_at») input)));
           few = a .repeats-most;
           settings = accepts t (t .memory) (a .memory-most);
+          letters = a .events-are;
         }

@@ -4,6 +4,7 @@ pub mod World
 pub mod TurnLaws
 pub mod StepLaws
 pub mod InputLaws
+pub mod LetterLaws
 pub mod FoldLaws
 pub mod Rehearsed
 pub mod Theorem

@@ -6,7 +6,7 @@ use mathlib.Core.List.{List, [], _∷_, _++_, append-nil}
 use native.Mathlib.Omega.{arith}
 use lib.ListN.{length, take}
 use lib.Dec.{eqb}
-use borrow.Author.Tests.{eq-eqb, ne-eqb, eqb-true, eqb-false}
+use borrow.Author.Tests.{eq-eqb, ne-eqb}
 use Rattle.message.specs.declared.Fields.{Fields}
 use Rattle.message.specs.Read.{fields}
 use Rattle.image.specs.Image.{widest}
@@ -18,7 +18,7 @@ use Rattle.machine.specs.Machine.{machineFrame}
 use Rattle.load_next.specs.declared.Session.{Session}
 use Rattle.load_next.specs.Next as load-next
 use Rattle.load.specs.Load as load
-use Rattle.load.specs.Load.{loadFrame, loadTimer}
+use Rattle.load.specs.Load.{loadFrame}
 use Rattle.queue.specs.declared.Queue.{Queue}
 use Rattle.queue.specs.Queue as queue
 use Rattle.queue.specs.Queue.{leave, sent, keeps}
@@ -28,7 +28,7 @@ use Rattle.job.specs.declared.Ends.{Ends}
 use Rattle.job.specs.Run.{Run, Step, run, machineMoves, hostMoves}
 use Rattle.rehearse.specs.Rehearse.{machineHanded, machineTimed, hostHanded, hostTimed, still, hostLeaves, machineLeaves, event}
 use Rattle.link.specs.Link as link
-use Rattle.link.specs.Link.{Frame, Turn, refuses, acts, World, Event, own, Own, handToMachine, keepToMachine, dropToMachine, handToHost, keepToHost, dropToHost, machineTurn, hostTurn, handedToMachine, keptToMachine, droppedToMachine, handedToHost, keptToHost, droppedToHost, ownStep, queued}
+use Rattle.link.specs.Link.{Frame, acts, World, Event, own, Own, handToMachine, keepToMachine, dropToMachine, handToHost, keepToHost, dropToHost, machineTurn, hostTurn, handedToMachine, keptToMachine, droppedToMachine, handedToHost, keptToHost, droppedToHost, ownStep, queued}
 use Rattle.link.specs.MachineEnd.{End, machineEnd, machineTurned}
 use Rattle.link.specs.Bounded.{within, runWithin}
 use Rattle.link.specs.Unrefused.{Unrefused}

@@ -1,5 +1,6 @@
 -- Every rehearsal is a run of the link (PROTOCOL 6, 'Link'). For every accepted input:
 --     linked      its letters are events of the link with queues of 16 frames, and it ends in the world that they lead to
+--     one-each    each letter is one event
 --     on-link     so there is a list of the link's own events after which both ends and the count of host frames are the same
 --     last-line   the transcript's last line speaks of that world: verdict, host frames, transfer address and memory
 --     reported    the host's report is true of the machine's memory
@@ -20,11 +21,12 @@ use Rattle.link.specs.MachineEnd.{End}
 use Rattle.link_load.specs.Report.{Report, Loaded}
 use Rattle.link_load.specs.Audit.{bounded-load, bounded-finished}
 use Rattle.rehearse_link.specs.Rehearsed.{asked, Accepted, settings, image, zeros, begun, ended, ends, freshEnds, events, worldAtEnd}
+use Rattle.rehearse_link.specs.LetterLaws as letter
 use Rattle.rehearse_link.specs.InputLaws.{Ready, ready}
 use Rattle.rehearse_link.specs.FoldLaws.{empty-ring, whole, last}
 
 module _ (input : List ℕ) (a : Accepted input) where
-  accepted : Ready (asked input)
+  accepted : Ready input (asked input)
   accepted = ready input (replicate 4096 0) a
 
   pub linked : runWithin 16 (ends input) (freshEnds input) (events input) ≡ worldAtEnd input
@@ -34,6 +36,9 @@ module _ (input : List ℕ) (a : Accepted input) where
       ap (λ (n : ℕ). machine.refusal (settings input .machine) machine.requesting n 1500) size ∙ accepted .settings in
       whole (settings input) (image input) (zeros input) (accepted .image) (accepted .octets) (accepted .few) fit places places (replicate 1500 0) empty-ring empty-ring
       (length-replicate {A = ℕ} 1500 0) (lettersOf input (asked input .job))
+
+  pub one-each : length (events input) ≡ length (lettersOf input (asked input .job))
+  one-each = letter.one-each (settings input) (image input) (begun input) (lettersOf input (asked input .job)) (accepted .letters)
 
   pub on-link : (es : List (Event ⊥)) × Alike (run (ends input) (freshEnds input) es) (worldAtEnd input)
   on-link = subst (λ (w : World Session End). (es : List (Event ⊥)) × Alike (run (ends input) (freshEnds input) es) w) linked (bounded (ends input) 16 (freshEnds input) (events input))
