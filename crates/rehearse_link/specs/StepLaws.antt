@@ -294,7 +294,7 @@ module _ (s : Setup) (file : List ℕ) (narrow : s .host .«segment_size» ≤ w
 
   -- THE STEP: each letter is its event
   pub steps : (letter : ℕ) → Room (event s file r letter .run) × ((k : ℕ) × (runWithin 16 ends (world n r) (eventAt (r .reply) letter) ≡ world k (event s file r letter .run)))
-  unfolding P
+  unfolding P runWithin
   steps letter =
       pair P (eqb letter 104) hands-to-machine
       (pair P (eqb letter 107) keeps-to-machine
