@@ -1,2 +1,10 @@
 pub mod Ring
 pub mod RingLaws
+pub mod World
+pub mod TurnLaws
+pub mod StepLaws
+pub mod InputLaws
+pub mod FoldLaws
+pub mod Rehearsed
+pub mod Theorem
+pub mod Cases

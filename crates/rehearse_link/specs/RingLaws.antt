@@ -1,16 +1,18 @@
 -- First in, first out: what joins is the last, what leaves is the first, and a full ring drops what comes.
 use Prim.Native.Nat.{ℕ, zero, suc, _+_, _-_, _%_, _≤_, _<_}
 use mathlib.Core.Path.{_≡_, refl, ap, sym, _∙_}
-use mathlib.Core.List.{List, [], _∷_, _++_}
+use mathlib.Core.Bool.{Bool, true, false, cond as pick}
+use mathlib.Core.List.{List, [], _∷_, _++_, append-nil}
 use native.Mathlib.Omega.{arith}
 use native.Mathlib.Numerals.{add-one}
-use native.Mathlib.Nat.{zero-add}
-use lib.ListN.{length, getD, set, take, drop}
+use lib.ListN.{length, getD, set, take, drop, length-append, length-drop, length-set}
 use lib.Seq.{getD-set-same, getD-set-other, take-at, take-all}
-use borrow.Author.Tests.{le-leb, lt-leb, ne-eqb, eq-eqb}
+use lib.Dec.{eqb, leb}
+use borrow.Author.Tests.{le-leb, lt-leb, ne-eqb, eqb-true, eqb-false, leb-true, leb-false}
+use Rattle.octets.specs.TestLaws.{by-cases}
 use Rattle.octets.specs.Lay.{put}
 use Rattle.queue.specs.declared.Queue.{Queue}
-use Rattle.queue.specs.Queue.{isFull, front, free, join, leave, first, stored, sent, keeps}
+use Rattle.queue.specs.Queue.{front, free, leave, first, sent, keeps}
 use Rattle.rehearse_link.specs.Ring.{framesFrom, frames, Ring}
 
 -- places that are written elsewhere
@@ -89,3 +91,76 @@ leaves-from lengths places at (suc n) z =
 
 pub leaves : (q : Queue) (places : List (List ℕ)) → 0 < q .many → frames q places ≡ first q places ∷ frames (leave q) places
 leaves q places h = rw (ne-eqb (q .many) 0 (omega arith)) (leaves-from (q .lengths) places (q .first) (q .many) h)
+
+-- ---- a ring stays one, and holds the first 16 frames
+pub length-from : (lengths : List ℕ) (places : List (List ℕ)) (at n : ℕ) → length (framesFrom lengths places at n) ≡ n
+unfolding framesFrom
+length-from lengths places at zero = refl
+length-from lengths places at (suc n) = ap suc (length-from lengths places (at + 1) n)
+
+length-put : (frame place : List ℕ) → length frame ≤ length place → length (put frame 0 place) ≡ length place
+length-put frame place h = rw (le-leb (0 + length frame) (length place) (omega arith)) (simp (length-append, length-drop) (omega arith))
+
+-- a frame that was sent: no bytes are none
+abbrev pub asFrames : List ℕ → List (List ℕ)
+asFrames frame = pick (eqb (length frame) 0) [] (frame ∷ [])
+
+module _ (q : Queue) (places : List (List ℕ)) (r : Ring q places) where
+  pub empty-frames : q .many ≡ 0 → frames q places ≡ []
+  unfolding framesFrom
+  empty-frames e = rw e
+
+  pub all-within : take 16 (frames q places) ≡ frames q places
+  all-within = take-all 16 (frames q places) (omega (arith, length-from (q .lengths) places (q .first) (q .many), r .few))
+
+  pub leave-ring : Ring (leave q) places
+  leave-ring =
+      by-cases (λ (p : Queue). Ring p places) (eqb (q .many) 0) (λ _. r)
+      (λ _. record { few = omega (arith, r .few); all-lengths = r .all-lengths; all-places = r .all-places; wide = r .wide })
+
+  module _ (frame : List ℕ) (short : length frame ≤ 1500) where
+    joined-ring : q .many < 16 → Ring (record { first = q .first; many = q .many + 1; lengths = set (q .lengths) (free q) (length frame) }) (set places (free q) (put frame 0 (getD places (free q) [])))
+    joined-ring l =
+        record {
+          few = omega arith;
+          all-lengths = length-set (q .lengths) (free q) (length frame) ∙ r .all-lengths;
+          all-places = length-set places (free q) (put frame 0 (getD places (free q) [])) ∙ r .all-places;
+          wide = λ k h. at k h (eqb k (free q)) refl;
+        }
+      where
+        at : (k : ℕ) → k < 16 → (b : Bool) → eqb k (free q) ≡ b → length (getD (set places (free q) (put frame 0 (getD places (free q) []))) k []) ≡ 1500
+        at k h true e =
+            let i : free q < 16 = omega arith in
+            let w = r .wide (free q) i in
+            rw (eqb-true k (free q) e, getD-set-same places (free q) (put frame 0 (getD places (free q) [])) [] (omega (arith, r .all-places)))
+            (length-put frame (getD places (free q) []) (omega arith) ∙ w)
+        at k h false e = rw (getD-set-other places (free q) k (put frame 0 (getD places (free q) [])) [] (eqb-false k (free q) e)) (r .wide k h)
+
+    pub sent-ring : Ring (sent q frame) (keeps q frame places)
+    sent-ring = go (eqb (length frame) 0) (leb 16 (q .many)) refl
+      where
+        go : (b c : Bool) → leb 16 (q .many) ≡ c
+            → Ring (pick b q (pick c q (record { first = q .first; many = q .many + 1; lengths = set (q .lengths) (free q) (length frame) })))
+            (pick b places (pick c places (set places (free q) (put frame 0 (getD places (free q) [])))))
+        go true c e = r
+        go false true e = r
+        go false false e = joined-ring (leb-false 16 (q .many) e)
+
+    pub sent-frames : frames (sent q frame) (keeps q frame places) ≡ take 16 (frames q places ++ asFrames frame)
+    sent-frames = go (eqb (length frame) 0) refl
+      where
+        n : length (frames q places) ≡ q .many
+        n = length-from (q .lengths) places (q .first) (q .many)
+
+        some : (length frame ≡ 0 → ⊥) → (c : Bool) → leb 16 (q .many) ≡ c → frames (sent q frame) (keeps q frame places) ≡ take 16 (frames q places ++ (frame ∷ []))
+        some z true e =
+            let full : 16 ≤ q .many = leb-true 16 (q .many) e in
+            let d = drops q places r frame full z in
+            rw (d .0, d .1) (sym (take-at (frames q places) (frame ∷ []) 16 (omega (arith, n, r .few))))
+        some z false e =
+            let l : q .many < 16 = leb-false 16 (q .many) e in
+            joins q places r frame l z short ∙ sym (take-all 16 (frames q places ++ (frame ∷ [])) (rw (length-append (frames q places) (frame ∷ [])) (omega (arith, n))))
+
+        go : (b : Bool) → eqb (length frame) 0 ≡ b → frames (sent q frame) (keeps q frame places) ≡ take 16 (frames q places ++ asFrames frame)
+        go true e = rw (e, append-nil (frames q places)) (sym all-within)
+        go false e = some (eqb-false (length frame) 0 e) (leb 16 (q .many)) refl ∙ (rw e)

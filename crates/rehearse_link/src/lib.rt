@@ -1,1 +1,1 @@
-// The rehearsal's queues as the link's: definitions and theorems alone (specs/).
+// Every rehearsal is a run of the link: definitions and theorems alone (specs/).

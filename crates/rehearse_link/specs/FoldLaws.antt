@@ -1,0 +1,120 @@
+-- A whole rehearsal is a run of the link with queues of 16 frames, from fresh ends on.
+use Prim.Native.Nat.{ℕ, _≤_}
+use mathlib.Core.Path.{_≡_, refl, ap, sym, subst, _∙_}
+use mathlib.Core.List.{List, [], _∷_, _++_, append-nil, append-assoc}
+use native.Mathlib.Omega.{arith}
+use lib.ListN.{length, replicate, length-replicate, getD-replicate}
+use Rattle.octets.specs.Number.{Octets}
+use Rattle.image.specs.Image.{cutRefusal}
+use Rattle.image.specs.Laws.{ready}
+use Rattle.machine_next.specs.Next as machine
+use Rattle.load_next.specs.declared.Session.{Session}
+use Rattle.queue.specs.Queue.{empty}
+use Rattle.job.specs.declared.Setup.{Setup}
+use Rattle.job.specs.Run.{Run, run, freshEnds, begin, endLine}
+use Rattle.rehearse.specs.Rehearse.{event, eventLine, after, lines, places}
+use Rattle.link.specs.Link.{Frame, Turn, World, Ends, Event, machineTurn}
+use Rattle.link.specs.MachineEnd.{End, machineEnd}
+use Rattle.link.specs.CallLaws.{told-as}
+use Rattle.link.specs.Bounded.{within, runWithin}
+use Rattle.link.specs.Unrefused.{Unrefused}
+use Rattle.link_load.specs.Model.{loadEnds, freshWorld}
+use Rattle.link_load.specs.Audit.{bounded-load, bounded-never-refused}
+use Rattle.rehearse_link.specs.Ring.{framesFrom, frames, Ring}
+use Rattle.rehearse_link.specs.World.{world, eventAt, eventsOf}
+use Rattle.rehearse_link.specs.StepLaws.{Room, steps}
+
+run-joined : {H M : Type 0} (ends : Ends H M ⊥) (w : World H M) (es fs : List (Event ⊥))
+    → runWithin 16 ends w (es ++ fs) ≡ runWithin 16 ends (runWithin 16 ends w es) fs
+unfolding runWithin
+run-joined ends w [] fs = refl
+run-joined ends w (e ∷ es) fs = run-joined ends _ es fs
+
+-- 16 places of 1,500 zeros, and no frame
+pub empty-ring : Ring empty places
+empty-ring =
+    let place : List ℕ = replicate 1500 0 in
+    record {
+      few = omega arith;
+      all-lengths = length-replicate {A = ℕ} 16 0;
+      all-places = length-replicate 16 place;
+      wide = λ p h. ap length (getD-replicate 16 p place [] h) ∙ length-replicate {A = ℕ} 1500 0;
+    }
+
+module _ (s : Setup) (file old : List ℕ) (ok : cutRefusal file (s .host .«segment_size») ≡ 0) (o : Octets file) (few : s .host .repeats ≤ 255)
+    (fresh : machine.refusal (s .machine) machine.requesting (length old) 1500 ≡ 0) where
+  abbrev ends : Ends Session End ⊥
+  ends = loadEnds (s .host) (s .machine) file
+
+  abbrev reached : List (Event ⊥) → World Session End
+  reached es = runWithin 16 ends (freshWorld (s .machine) old) es
+
+  unrefused : (es : List (Event ⊥)) → Unrefused ends (reached es)
+  unrefused es = bounded-never-refused (s .host) (s .machine) file old ok o few fresh 16 es
+
+  -- ---- letters in turn
+  folds : (es : List (Event ⊥)) (r : Run) → Room r → (k : ℕ) → reached es ≡ world k r → (letters : List ℕ)
+      → (n : ℕ) × (reached (es ++ eventsOf s file r letters) ≡ world n (after s file r letters))
+  unfolding eventsOf after
+  folds es r room k e [] = (k, ap reached (append-nil es) ∙ e)
+  folds es r room k e (letter ∷ rest) =
+      let u : Unrefused ends (world k r) = subst (Unrefused ends) e (unrefused es) in
+      let x = steps s file (ready file (s .host .«segment_size») ok .narrow) r room k u letter in
+      let y : reached (es ++ eventAt (r .reply) letter) ≡ world (x .1 .0) (event s file r letter .run) =
+      run-joined ends (freshWorld (s .machine) old) es (eventAt (r .reply) letter)
+      ∙ ap (λ (w : World Session End). runWithin 16 ends w (eventAt (r .reply) letter)) e ∙ x .1 .1 in
+      let z = folds (es ++ eventAt (r .reply) letter) (event s file r letter .run) (x .0) (x .1 .0) y rest in
+      (z .0, ap reached (sym (append-assoc es (eventAt (r .reply) letter) (eventsOf s file (event s file r letter .run) rest))) ∙ z .1)
+
+  -- ---- the first step: the machine's first frame, as its timer gives it
+  module _ (hosts machines : List (List ℕ)) (reply : List ℕ) (g : Ring empty hosts) (i : Ring empty machines) (l : length reply ≡ 1500) where
+    abbrev blank : Run
+    blank = run freshEnds old hosts machines reply
+
+    no-frame : (f : Frame) (q : List Frame) → [] ≡ f ∷ q → ⊥
+    no-frame f q e = let z : _≡_ {A = ℕ} 0 1 = cc in omega arith
+
+    blank-unrefused : Unrefused ends (world 0 blank)
+    unfolding framesFrom runWithin
+    blank-unrefused =
+        record {
+          hostFrame = λ f q b e _ _. no-frame f q e;
+          hostTimer = unrefused [] .hostTimer;
+          machineFrame = λ f q b e _ _. no-frame f q e;
+          machineTimer = unrefused [] .machineTimer;
+        }
+
+    begins : Room (begin s blank .run) × ((k : ℕ) × (freshWorld (s .machine) old ≡ world k (begin s blank .run)))
+    unfolding framesFrom runWithin
+    begins =
+        let room : Room blank = record { hosts = g; machines = i; reply = l; running = omega arith } in
+        let x = steps s file (ready file (s .host .«segment_size») ok .narrow) blank room 0 blank-unrefused 110 in
+        let a = machine.onTimer (s .machine) machine.requesting old in
+        let accepted : machine.refusal (s .machine) machine.requesting (length old) (length reply) ≡ 0 = rw l fresh in
+        let t = told-as machineEnd (machine.refusal (s .machine) machine.requesting (length old) (length reply)) machine.requesting old reply a accepted in
+        let y : within 16 (machineTurn (world 0 blank) [] (ends .machineTimer (machineEnd machine.requesting old) reply)) ≡ freshWorld (s .machine) old =
+        ap (λ (v : Turn End). within 16 (machineTurn (world 0 blank) [] v)) t in
+        (x .0, (x .1 .0, sym y ∙ x .1 .1))
+
+    -- the whole: what the link has taken is what the host counts
+    pub whole : (letters : List ℕ)
+        → reached (eventsOf s file (begin s blank .run) letters)
+        ≡ world (after s file (begin s blank .run) letters .ends .session .sent) (after s file (begin s blank .run) letters)
+    unfolding runWithin
+    whole letters =
+        let r = begin s blank .run in
+        let x = folds [] r (begins .0) (begins .1 .0) (begins .1 .1) letters in
+        let c = bounded-load (s .host) (s .machine) file old ok o 16 (eventsOf s file r letters) .counted in
+        let same : after s file r letters .ends .session .sent ≡ x .0 =
+        ap (λ (w : World Session End). w .host .sent) (sym (x .1)) ∙ c ∙ ap (λ (w : World Session End). w .taken) (x .1) in
+        x .1 ∙ ap (λ (n : ℕ). world n (after s file r letters)) (sym same)
+
+-- ---- the last line is that of the run after all letters
+pub last : (s : Setup) (file : List ℕ) (r : Run) (letters : List ℕ)
+    → (front : List ℕ) × (lines s file r letters ≡ front ++ endLine (after s file r letters .ends) (after s file r letters .memory))
+unfolding lines after
+last s file r [] = ([], refl)
+last s file r (letter ∷ rest) =
+    let t = event s file r letter in
+    let x = last s file (t .run) rest in
+    (eventLine letter t ++ x .0, ap (λ (l : List ℕ). eventLine letter t ++ l) (x .1) ∙ sym (append-assoc (eventLine letter t) (x .0) _))

@@ -1,0 +1,57 @@
+-- Every rehearsal is a run of the link: for every accepted input, of any bytes,
+--     linked      its letters are events of the link with queues of 16 frames, and it ends in the world that they lead to
+--     on-link     so there is a list of the link's own events after which both ends and the count of host frames are the same
+--     last-line   the transcript's last line speaks of that world: verdict, host frames, transfer address and memory
+--     reported    the host's report is true of the machine's memory
+--     loaded      verdict 1: the machine holds the program, and no other byte of memory changed
+use Prim.Native.Nat.{ℕ}
+use mathlib.Core.Path.{_≡_, ap, sym, subst, _∙_}
+use mathlib.Core.List.{List, _++_, append-assoc}
+use lib.ListN.{length, replicate, length-replicate}
+use borrow.Author.Tests.{eq-eqb}
+use Rattle.machine_next.specs.Next as machine
+use Rattle.load_next.specs.declared.Session.{Session}
+use Rattle.job.specs.Run.{begin, beginLine, endLine}
+use Rattle.rehearse.specs.Rehearse.{fresh, places, lettersOf, transcript}
+use Rattle.link.specs.Link.{World, Event, run}
+use Rattle.link.specs.Bounded.{runWithin, Alike}
+use Rattle.link.specs.Theorem.{bounded}
+use Rattle.link.specs.MachineEnd.{End}
+use Rattle.link_load.specs.Report.{Report, Loaded}
+use Rattle.link_load.specs.Audit.{bounded-load, bounded-finished}
+use Rattle.rehearse_link.specs.Rehearsed.{asked, Accepted, settings, image, zeros, begun, ended, ends, freshEnds, events, worldAtEnd}
+use Rattle.rehearse_link.specs.InputLaws.{Ready, ready}
+use Rattle.rehearse_link.specs.FoldLaws.{empty-ring, whole, last}
+
+module _ (input : List ℕ) (a : Accepted input) where
+  accepted : Ready (asked input)
+  accepted = ready input (replicate 4096 0) a
+
+  pub linked : runWithin 16 (ends input) (freshEnds input) (events input) ≡ worldAtEnd input
+  linked =
+      let size : length (zeros input) ≡ asked input .job .script .memory = length-replicate {A = ℕ} (asked input .job .script .memory) 0 in
+      let fit : machine.refusal (settings input .machine) machine.requesting (length (zeros input)) 1500 ≡ 0 =
+      ap (λ (n : ℕ). machine.refusal (settings input .machine) machine.requesting n 1500) size ∙ accepted .settings in
+      whole (settings input) (image input) (zeros input) (accepted .image) (accepted .octets) (accepted .few) fit places places (replicate 1500 0) empty-ring empty-ring
+      (length-replicate {A = ℕ} 1500 0) (lettersOf input (asked input .job))
+
+  pub on-link : (es : List (Event ⊥)) × Alike (run (ends input) (freshEnds input) es) (worldAtEnd input)
+  on-link = subst (λ (w : World Session End). (es : List (Event ⊥)) × Alike (run (ends input) (freshEnds input) es) w) linked (bounded (ends input) 16 (freshEnds input) (events input))
+
+  pub last-line : (front : List ℕ) × (transcript input ≡ front ++ endLine (ended input .ends) (ended input .memory))
+  last-line =
+      let x = last (settings input) (image input) (begun input) (lettersOf input (asked input .job)) in
+      let t = begin (settings input) (fresh (asked input .job .script .memory)) in (
+        beginLine t ++ x .0,
+        (rw (eq-eqb (asked input .job .refusal) 0 a)) ∙ ap (λ (l : List ℕ). beginLine t ++ l) (x .1) ∙ sym (append-assoc (beginLine t) (x .0) (endLine (ended input .ends) (ended input .memory))),
+      )
+
+  pub reported : Report (settings input .host) (image input) (zeros input) (worldAtEnd input)
+  reported =
+      subst (Report (settings input .host) (image input) (zeros input)) linked
+      (bounded-load (settings input .host) (settings input .machine) (image input) (zeros input) (accepted .image) (accepted .octets) 16 (events input))
+
+  pub loaded : ended input .ends .session .verdict ≡ 1 → Loaded (image input) (zeros input) (worldAtEnd input .machine)
+  loaded e =
+      subst (λ (w : World Session End). w .host .verdict ≡ 1 → Loaded (image input) (zeros input) (w .machine)) linked
+      (bounded-finished (settings input .host) (settings input .machine) (image input) (zeros input) (accepted .image) (accepted .octets) 16 (events input)) e
