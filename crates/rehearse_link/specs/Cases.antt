@@ -1,4 +1,4 @@
--- The theorem has instances: the paper's worked input is accepted, its verdict is 1, and so its image is loaded.
+-- The theorem has instances: the worked input of PROTOCOL 8, 'Rehearsal' is accepted, its verdict is 1, and so its image is loaded.
 use Prim.Native.Nat.{ℕ}
 use mathlib.Core.Path.{_≡_, refl}
 use mathlib.Core.List.{List, [], _∷_, _++_}
