@@ -6,7 +6,6 @@
 #include "dumping.h"
 #include "words.h"
 
-#define ASK_MOST (MOP_DUMP_DATA_MOST - LENGTH_FIELD)     /* code 14 with more is above the Ethernet limit */
 #define REPLY_REST (MOP_FRAME_MOST - MOP_DUMP_DATA_MOST) /* what code 14 has beside the data */
 
 enum { OPTION_FROM = OPTION_JOB, OPTION_LENGTH, OPTION_MODE, OPTION_TWICE, OPTION_RESUME };
@@ -153,7 +152,7 @@ static int option(int c, const char *value, host *h, dumping *d)
         d->path = value;
         return 0;
     case 'C':
-        return option_small("-C", value, 1, ASK_MOST, &d->range.request_bytes);
+        return option_small("-C", value, 1, MOP_ETHERNET_DUMP_DATA_MOST, &d->range.request_bytes);
     case OPTION_FROM:
         d->from = true;
         return option_small("--from", value, 0, UINT32_MAX, &d->range.address);

@@ -9,7 +9,6 @@
 #include "progress.h"
 #include "words.h"
 
-#define SEGMENT_MOST (MOP_SEGMENT_MOST - LENGTH_FIELD)   /* code 0 with more is above the Ethernet limit */
 #define SEGMENT_REST (MOP_FRAME_MOST - MOP_SEGMENT_MOST) /* what code 0 has beside the data */
 
 enum { OPTION_ACCEPT = OPTION_JOB };
@@ -186,7 +185,7 @@ static int option(int c, const char *value, host *h, loading *l)
 {
     switch (c) {
     case 'S':
-        return option_small("-S", value, 1, SEGMENT_MOST, &l->settings.segment_size);
+        return option_small("-S", value, 1, MOP_ETHERNET_SEGMENT_MOST, &l->settings.segment_size);
     case OPTION_ACCEPT:
         return option_small("--accept-type", value, MOP_PROGRAM_SECONDARY, MOP_PROGRAM_SYSTEM, &l->accept);
     default:

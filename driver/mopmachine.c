@@ -10,7 +10,6 @@
 #include "options.h"
 #include "words.h"
 
-#define DUMP_MOST (MOP_DUMP_DATA_MOST - LENGTH_FIELD)   /* code 14 with more is above the Ethernet limit */
 #define DUMP_REST (MOP_FRAME_MOST - MOP_DUMP_DATA_MOST) /* what code 14 has beside the data */
 #define ASKS 8 /* requests to one host without an answer, before all are asked again */
 
@@ -220,7 +219,7 @@ static int option(int c, const char *value, machine_end *m)
         m->save.force = true;
         return 0;
     case 'D':
-        return option_small("-D", value, 1, DUMP_MOST, &m->settings.reply_bytes);
+        return option_small("-D", value, 1, MOP_ETHERNET_DUMP_DATA_MOST, &m->settings.reply_bytes);
     case OPTION_DEVICE:
         return small_byte("--device", value, &m->settings.device);
     case OPTION_PROCESSOR:

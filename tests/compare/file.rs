@@ -1,4 +1,4 @@
-//! Makes image files (paper 01, "Image file").
+//! Makes image files (PROTOCOL 3, "Image files").
 
 /// A directory entry.
 #[derive(Clone, Copy)]

@@ -116,7 +116,7 @@ fn regions(random: &mut Random, count: usize, body: u64) -> Vec<Region> {
 
 impl Compare {
     /// Checks a file with both implementations at many segment sizes. `wanted`
-    /// is the answer for a good size by the paper, where it is known.
+    /// is the answer for a good size by the protocol, where it is known.
     pub fn image(&mut self, kind: &'static str, file: &[u8], wanted: Option<u8>) {
         self.tally.image(kind);
         let random = &mut self.random;
@@ -165,7 +165,7 @@ impl Compare {
         }
         if wanted.is_some_and(|wanted| wanted != refusal) {
             let what =
-                format_args!("plain image check against the paper, {kind}, segment size {size}");
+                format_args!("plain image check against the protocol, {kind}, segment size {size}");
             self.tally.differ(what, Hex(file), refusal, wanted);
         }
     }

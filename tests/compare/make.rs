@@ -1,4 +1,4 @@
-//! Makes frames that paper 01 accepts, byte by byte, with neither of the two
+//! Makes frames that the protocol accepts, byte by byte, with neither of the two
 //! implementations.
 
 use crate::random::Random;
@@ -151,7 +151,7 @@ fn offset(random: &mut Random) -> (i8, i8) {
     random.pick(&[west, east])
 }
 
-/// Whether paper 01 allows this offset: both in range and, unless one is 0,
+/// Whether the protocol allows this offset: both in range and, unless one is 0,
 /// of one sign.
 pub fn offset_is_good(hours: i8, minutes: i8) -> bool {
     let in_range = hours >= -12 && hours <= 13 && minutes >= -59 && minutes <= 59;

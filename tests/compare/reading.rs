@@ -7,7 +7,7 @@ use mop_plain::frame::{self, Frame};
 
 impl Compare {
     /// Reads a frame with both implementations and compares every field; an
-    /// accepted one is written again. `wanted` is the answer by the paper,
+    /// accepted one is written again. `wanted` is the answer by the protocol,
     /// where the case's maker knows it: 0, or the refusal.
     pub fn read(&mut self, kind: &'static str, bytes: &[u8], wanted: Option<u8>) {
         let plain = frame::read(bytes);
@@ -19,7 +19,7 @@ impl Compare {
             self.tally.differ(what, Hex(bytes), seen, expected);
         }
         if wanted.is_some_and(|wanted| wanted != expected.refusal) {
-            let what = format_args!("plain reader against the paper, {kind}");
+            let what = format_args!("plain reader against the protocol, {kind}");
             self.tally
                 .differ(what, Hex(bytes), expected.refusal, wanted);
         }

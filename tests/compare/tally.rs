@@ -48,7 +48,7 @@ const fn exact(code: u8, length: usize) -> Code {
     }
 }
 
-/// The listed codes (paper 01, "Messages").
+/// The listed codes (PROTOCOL 2, "Messages").
 pub const CODES: [Code; 12] = [
     open(0, 10),
     exact(1, 1),

@@ -298,7 +298,7 @@ impl Compare {
     }
 }
 
-/// A writer's answer by the paper: 4, then 2, then 9.
+/// A writer's answer by the protocol: 4, then 2, then 9.
 fn wanted(good: bool, length: usize, room: usize) -> Wanted<'static> {
     if !good {
         Wanted::Refusal(4)

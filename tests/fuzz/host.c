@@ -28,14 +28,18 @@ static void look(void *job, line_frame *frame)
 }
 
 static mop_written update(
-    void *job, uint8_t timer, const uint8_t *frame, size_t frame_length, uint8_t *reply, size_t reply_length)
+    void *job, bool timer, const uint8_t *frame, size_t frame_length, uint8_t *reply, size_t reply_length)
 {
     session *s = job;
+    if (s->dump && timer)
+        return mop_dump_update_timer(s->dump_settings, &s->taken, s->buffer, DUMP_LENGTH, reply, reply_length);
     if (s->dump)
-        return mop_dump_update(
-            s->dump_settings, &s->taken, timer, frame, frame_length, s->buffer, DUMP_LENGTH, reply, reply_length);
-    return mop_load_update(
-        s->load_settings, &s->load, timer, s->image, IMAGE_LENGTH, frame, frame_length, reply, reply_length);
+        return mop_dump_update_frame(
+            s->dump_settings, &s->taken, frame, frame_length, s->buffer, DUMP_LENGTH, reply, reply_length);
+    if (timer)
+        return mop_load_update_timer(s->load_settings, &s->load, s->image, IMAGE_LENGTH, reply, reply_length);
+    return mop_load_update_frame(
+        s->load_settings, &s->load, s->image, IMAGE_LENGTH, frame, frame_length, reply, reply_length);
 }
 
 static bool would_begin(const void *job, const line_frame *frame)
@@ -44,7 +48,7 @@ static bool would_begin(const void *job, const line_frame *frame)
     uint8_t reply[MOP_FRAME_MOST];
     trial.load = mop_load_start();
     trial.taken = mop_dump_start();
-    update(&trial, 0, frame->bytes, frame->length, reply, sizeof reply);
+    update(&trial, false, frame->bytes, frame->length, reply, sizeof reply);
     return trial.dump ? trial.taken.waiting == 0 : trial.load.waiting == 0;
 }
 

@@ -104,7 +104,7 @@ bool fuzz_machine(void)
     memset(&m, 0, sizeof m);
     m.common.timer = m.common.wait = 1000;
     m.memory = (contents){memory, MEMORY_LENGTH};
-    m.settings.reply_bytes = 1 + below(DUMP_MOST);
+    m.settings.reply_bytes = 1 + below(MOP_ETHERNET_DUMP_DATA_MOST);
     m.offer = one_in(4);
     line_make(&m.line);
     require(start(&m) == 0 && check_sent(&m) == 1, "a machine begins with a frame");

@@ -1,4 +1,4 @@
-//! The host's dump (paper 01, "Host end").
+//! The host's dump (PROTOCOL 5, "Host end").
 
 use crate::frame::{self, Frame};
 use crate::refusal::{BAD_RECORD, BAD_SETTING, Refusal};

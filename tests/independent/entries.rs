@@ -1,4 +1,4 @@
-//! The entries of code 20 (paper 01, "Messages"; document 3.0.0, 5.1.8).
+//! The entries of code 20 (PROTOCOL 2, "Messages"; document 3.0.0, 5.1.8).
 //! They are judged byte by byte: type, length, then the value.
 
 use crate::cursor::Cursor;

@@ -1,4 +1,4 @@
-//! Frames: their fields, the reader and the writers (paper 01, "Messages" and
+//! Frames: their fields, the reader and the writers (PROTOCOL 2, "Messages" and
 //! "Refused"; document 3.0.0, 5.1 and 5.2).
 
 use std::ops::RangeInclusive;
@@ -10,7 +10,7 @@ use crate::refusal::{OUTSIDE_LIST, Refusal, SMALL_BUFFER, TOO_LONG, TOO_SHORT, U
 /// No frame has more bytes.
 pub const LONGEST: usize = 1500;
 
-/// A frame's fields, in their order. A reader gives only what the paper
+/// A frame's fields, in their order. A reader gives only what the protocol
 /// allows; a frame made by hand may break its rules, and `write` refuses it.
 #[derive(Clone, Copy, Debug, PartialEq, Eq)]
 pub enum Frame<'a> {

@@ -1,4 +1,4 @@
-//! The image file and its segments (paper 01, "Image file"). All sums are
+//! The image file and its segments (PROTOCOL 3, "Image files"). All sums are
 //! made in 64 bits, since two 32-bit fields may add up to more than fits.
 
 use crate::refusal::{BAD_DIRECTORY, BAD_FILE, BAD_REGION, BAD_SETTING, OUT_OF_ORDER, Refusal};

@@ -1,4 +1,4 @@
-//! The maintenance operation protocol in plain Rust, written from paper 01
+//! The maintenance operation protocol in plain Rust, written from the specification
 //! and DEC's document 3.0.0 alone, to compare the proved library with.
 //!
 //! Nothing but the rehearsal allocates: what is read borrows from the bytes

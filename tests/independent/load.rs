@@ -1,4 +1,4 @@
-//! The host's load (paper 01, "Host end").
+//! The host's load (PROTOCOL 5, "Host end").
 
 use crate::frame::{self, Frame};
 use crate::image::{self, Image, SEGMENT_MOST};

@@ -1,4 +1,4 @@
-//! The host's loop test (paper 01, "Host end").
+//! The host's loop test (PROTOCOL 5, "Host end").
 
 use crate::frame::{self, Frame};
 use crate::refusal::{BAD_RECORD, BAD_SETTING, Refusal};

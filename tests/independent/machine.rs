@@ -1,4 +1,4 @@
-//! The machine end (paper 01, "Machine end"). Its memory is a slice, address
+//! The machine end (PROTOCOL 4, "Machine end"). Its memory is a slice, address
 //! 0 first.
 
 use crate::frame::{self, Frame};

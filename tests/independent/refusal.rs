@@ -1,4 +1,4 @@
-//! The numbers of paper 01, "Refused, and by whom".
+//! The numbers of PROTOCOL 7, "Refusals".
 
 /// Why something was refused: one of the numbers below.
 pub type Refusal = u8;

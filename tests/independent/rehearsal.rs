@@ -1,4 +1,4 @@
-//! The rehearsal (paper 01, "Rehearsal program and its transcript"): both ends
+//! The rehearsal (PROTOCOL 8, "Rehearsal"): both ends
 //! of a load and two queues of 16 places, driven by a list of events.
 //!
 //! The form of the whole input is checked first, then the image, and nothing

@@ -1,4 +1,4 @@
-//! What the steps of both ends share (paper 01, "Machine end", "Host end" and
+//! What the steps of both ends share (PROTOCOL 4, "Machine end", "Host end" and
 //! "Refused"). A step is a start, a frame that has come, or a timer that has
 //! run out. It is refused, and then changes nothing, or it changes the record
 //! and perhaps sends a frame.

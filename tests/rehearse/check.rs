@@ -158,7 +158,7 @@ impl Check {
         let printed = printed(answer.clone());
         let mut faults = Vec::new();
         if let Err(fault) = input.wanted.judge(&printed) {
-            faults.push(format!("plain implementation against the paper: {fault}"));
+            faults.push(format!("plain implementation against the protocol: {fault}"));
         }
         match program.run(&input.text, feed) {
             Err(error) => faults.push(format!("not run: {error}")),

@@ -15,7 +15,7 @@ pub enum Wanted {
     Agreement,
     /// The refusal.
     Bad(u8),
-    /// A transcript for which the paper's claim holds, and perhaps its verdict.
+    /// A transcript for which PROTOCOL 6's claim holds, and perhaps its verdict.
     Load(Box<Job>, Option<u8>),
     /// All of it.
     Printed(Vec<u8>),

@@ -1,4 +1,4 @@
-//! A rehearsal in parts, and what paper 01 claims of its end.
+//! A rehearsal in parts, and what the protocol claims of its end.
 
 use crate::file::{Region, build};
 

@@ -1,13 +1,13 @@
-//! Set inputs with their whole output, by paper 01's rules and by hand.
+//! Set inputs with their whole output, by the protocol's rules and by hand.
 
 use crate::inputs::{Input, Wanted};
 
-/// The paper's image: three bytes at address 2, transfer address 2.
+/// The protocol's image: three bytes at address 2, transfer address 2.
 const IMAGE: &str = "0A0B0C0200000000000000030000000300000001000000020000001F000000";
 
-/// An input, in which `I` stands for the paper's image, and its output.
+/// An input, in which `I` stands for the protocol's image, and its output.
 const CASES: &[(&str, &str)] = &[
-    // The paper's own.
+    // The protocol's own.
     (
         "8 2 1\nI\ntxmhtht\n",
         "T 08000102FF00\nH 0200020000000A0B\nH 0200020000000A0B\nT 0A0100\n\

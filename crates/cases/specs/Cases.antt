@@ -1,4 +1,4 @@
--- The set cases K1 to K12 of paper 01, one joint table: each is computed from the definitions.
+-- The set cases K1 to K12 of PROTOCOL 9, 'Set cases', one joint table: each is computed from the definitions.
 use Prim.Native.Nat.{ℕ}
 use mathlib.Core.Path.{_≡_, refl}
 use mathlib.Core.List.{List, [], _∷_, _++_}

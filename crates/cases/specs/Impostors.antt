@@ -1,4 +1,4 @@
--- Impostors at either end (paper 01), in the link: ends that are ours but for one thing. After one short list of events the claim of demand 3 is
+-- Impostors at either end (PROTOCOL), in the link: ends that are ours but for one thing. After one short list of events the claim of demand 3 is
 -- false of each, so no proof of it could be had. Image, settings and memory are those of the worked examples.
 use Prim.Native.Nat.{ℕ}
 use mathlib.Core.Path.{refl, ap}

@@ -1,1 +1,1 @@
-// The set cases K1 to K12 of paper 01 and its worked examples, as theorems (specs/).
+// The set cases K1 to K12 of PROTOCOL 9, 'Set cases', and its worked examples, as theorems (specs/).

@@ -1,4 +1,4 @@
-// The table of codes (paper 01, 'Messages'): which codes are listed, and how long their frames are.
+// The table of codes (PROTOCOL 2, 'Messages'): which codes are listed, and how long their frames are.
 ghost use mathlib.Core.Path.{_≡_};
 ghost use Rattle.message.specs.Read.{rows, find};
 ghost use Rattle.codes.specs.Table.{marked, limit, refusal};

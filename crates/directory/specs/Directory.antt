@@ -1,4 +1,4 @@
--- The trailer and the directory of an image file (paper 01, 'Image file'): their fields, the regions, and refusals 5 to 8 in
+-- The trailer and the directory of an image file (PROTOCOL 3, 'Image files'): their fields, the regions, and refusals 5 to 8 in
 -- their order. A `Trailer` and a `Region` are the code's own types.
 use Prim.Native.Nat.{ℕ, zero, suc, _+_, _-_, _*_}
 use mathlib.Core.Bool.{Bool, true, false}
@@ -70,7 +70,7 @@ bytes file r = take (r .length) (drop (r .place) file)
 abbrev pub nowhere : Region
 nowhere = record { address = 0; place = 0; length = 0 }
 
--- ---- refusals, by paper 01's numbers; 0 is none
+-- ---- refusals, by the numbers of PROTOCOL 7, 'Refusals'; 0 is none
 -- the refusal if something does not hold, else what is asked next
 unfoldable pub demand : Bool → ℕ → ℕ → ℕ
 demand true n next = next

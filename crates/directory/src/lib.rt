@@ -1,4 +1,4 @@
-// The trailer and the directory entries of an image file, and their refusals (paper 01, 'Image file').
+// The trailer and the directory entries of an image file, and their refusals (PROTOCOL 3, 'Image files').
 ghost use mathlib.Core.Path.{_≡_};
 ghost use Rattle.directory.specs.Directory.{trailerOf, trailer, trailerRefusal, entryRefusal};
 

@@ -1,4 +1,4 @@
--- The calls of the host's end of a dump (paper 01, 'Host end'): the record's counts, the dump buffer, and what each call leaves.
+-- The calls of the host's end of a dump (PROTOCOL 5, 'Host end'): the record's counts, the dump buffer, and what each call leaves.
 use Prim.Native.Nat.{ℕ, _+_}
 use mathlib.Core.Bool.{Bool, cond as pick}
 use mathlib.Core.List.{List}

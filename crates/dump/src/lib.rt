@@ -1,4 +1,4 @@
-// The calls of the host's end of a dump (paper 01, 'Host end'): the bytes that go in and out.
+// The calls of the host's end of a dump (PROTOCOL 5, 'Host end'): the bytes that go in and out.
 ghost use mathlib.Core.Path.{_≡_};
 ghost use mathlib.Core.List.{List};
 ghost use Prim.Native.Nat.{ℕ, _+_, _≤_, _<_, _^_};

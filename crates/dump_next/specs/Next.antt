@@ -1,4 +1,4 @@
--- What the host's end of a dump does next (paper 01, 'Host end'): its record, whether a reply is taken, and what goes out.
+-- What the host's end of a dump does next (PROTOCOL 5, 'Host end'): its record, whether a reply is taken, and what goes out.
 -- The counts of replies and frames are raised by the calls.
 use Prim.Native.Nat.{ℕ, _+_, _-_, min}
 use mathlib.Core.Bool.{Bool, true, false, _&&_, cond as pick}

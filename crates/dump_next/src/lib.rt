@@ -1,4 +1,4 @@
-// What the host's end of a dump does next (paper 01, 'Host end').
+// What the host's end of a dump does next (PROTOCOL 5, 'Host end').
 ghost use mathlib.Core.Path.{_≡_};
 ghost use Prim.Native.Nat.{_≤_, _<_};
 ghost use Rattle.dump_next.specs.Next.{fresh, asked, reached, repeated, ignores, asks, completes, takes, onOffer, onData, react, onTimer};

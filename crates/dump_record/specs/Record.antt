@@ -1,4 +1,4 @@
--- The record of the host's end of a dump (paper 01, 'Host end'; 'Refused, and by whom'): what a call refuses of it, of the settings
+-- The record of the host's end of a dump (PROTOCOL 5, 'Host end', and 7, 'Refusals'): what a call refuses of it, of the settings
 -- and of the buffers, and by how much its counts are raised.
 use Prim.Native.Nat.{ℕ, _+_, _*_}
 use mathlib.Core.Bool.{Bool, true, false, not, _&&_, cond as pick}
@@ -21,7 +21,7 @@ settled s size =
 abbrev pub blank : Session → Bool
 blank h = eqb (h .verdict) 0 && eqb (h .filled) 0 && eqb (h .replies) 0 && eqb (h .repeats) 0 && eqb (h .sent) 0
 
--- the record is none of those that 01 calls bad
+-- the record is none of those that are bad (PROTOCOL 7, 'Refusals')
 abbrev pub sound : Settings → Session → Bool
 sound s h =
     leb (h .verdict) 3 && leb (h .repeats) (s .repeats) && leb (h .filled) (s .length) && leb (h .replies) (h .filled)

@@ -1,4 +1,4 @@
-// The record of the host's end of a dump (paper 01, 'Host end'; 'Refused, and by whom'): what a call refuses of it, of the settings
+// The record of the host's end of a dump (PROTOCOL 5, 'Host end', and 7, 'Refusals'): what a call refuses of it, of the settings
 // and of the buffers, and by how much its counts are raised.
 ghost use mathlib.Core.Path.{_≡_};
 ghost use mathlib.Core.Bool.{true, not, cond};

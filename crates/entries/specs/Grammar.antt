@@ -1,4 +1,4 @@
--- Code 20's entries as paper 01 lists them ('Messages').
+-- Code 20's entries as PROTOCOL 2, 'Messages', lists them.
 use Prim.Native.Nat.{ℕ, _+_}
 use mathlib.Core.Bool.{true}
 use mathlib.Core.List.{List, [], _∷_, _++_}

@@ -1,4 +1,4 @@
--- The walk accepts the strings that paper 01 lists, and no others.
+-- The walk accepts the strings that PROTOCOL 2, 'Messages', lists, and no others.
 use Prim.Native.Nat.{ℕ, _+_, _-_, _≤_}
 use mathlib.Core.Bool.{Bool, true, false≢true, cond as pick}
 use mathlib.Core.List.{List, [], _∷_, _++_}

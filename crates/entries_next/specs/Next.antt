@@ -1,4 +1,4 @@
--- Code 20's entries, end mark and transfer address (paper 01, 'Messages'; 'Refused, and by whom': bytes in turn): what a byte is
+-- Code 20's entries, end mark and transfer address (PROTOCOL 2, 'Messages', and 7, 'Refusals': bytes in turn): what a byte is
 -- follows from the bytes before it.
 use Prim.Native.Nat.{ℕ, _+_, _-_}
 use mathlib.Core.Bool.{Bool, false, cond as pick}

@@ -1,4 +1,4 @@
-// Code 20's entries, end mark and transfer address: what a byte is, after the bytes before it (paper 01, 'Messages').
+// Code 20's entries, end mark and transfer address: what a byte is, after the bytes before it (PROTOCOL 2, 'Messages').
 ghost use mathlib.Core.Path.{_≡_};
 ghost use Rattle.entries_next.specs.Next.{listed, more, next};
 

@@ -1,4 +1,4 @@
--- The ten fields of a host time, an entry of code 20 (paper 01, 'Messages'): what each may be.
+-- The ten fields of a host time, an entry of code 20 (PROTOCOL 2, 'Messages'): what each may be.
 use Prim.Native.Nat.{ℕ, _-_}
 use mathlib.Core.Bool.{Bool, false, not, _&&_, _||_, cond as pick}
 use lib.Dec.{eqb, leb, ltb}

@@ -1,4 +1,4 @@
-// The fields of a host time, an entry of code 20 (paper 01, 'Messages').
+// The fields of a host time, an entry of code 20 (PROTOCOL 2, 'Messages').
 ghost use mathlib.Core.Path.{_≡_};
 ghost use Rattle.host_time.specs.HostTime.{within, signed, between, straddle, opposite, offsetMinutes, field};
 

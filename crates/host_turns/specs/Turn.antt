@@ -1,4 +1,4 @@
--- A turn of an end in a rehearsal (paper 01, 'Rehearsal program and its transcript'): a call of it, and the frame that it sends joins
+-- A turn of an end in a rehearsal (PROTOCOL 8, 'Rehearsal'): a call of it, and the frame that it sends joins
 -- its queue. Generic in the end's record, H, and in what else it is lent to change, B.
 use Prim.Native.Nat.{ℕ}
 use mathlib.Core.Path.{_≡_}

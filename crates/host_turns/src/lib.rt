@@ -1,5 +1,4 @@
-// The host's turns in a rehearsal: on the machine's first frame, and at its timer (paper 01, 'Rehearsal program and its
-// transcript').
+// The host's turns in a rehearsal: on the machine's first frame, and at its timer (PROTOCOL 8, 'Rehearsal').
 ghost use mathlib.Core.Path.{_≡_};
 ghost use Rattle.load.specs.Load.{loadFrame, loadTimer};
 ghost use Rattle.queue.specs.Queue.{first};

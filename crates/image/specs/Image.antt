@@ -1,4 +1,4 @@
--- Image files cut into segments (paper 01, 'Image file'): the segments, and what a walk over the directory finds.
+-- Image files cut into segments (PROTOCOL 3, 'Image files'): the segments, and what a walk over the directory finds.
 -- A `Region` and a `Tally` are the code's own types.
 use Prim.Native.Nat.{ℕ, zero, suc, _+_, _-_, _*_, _/_, min}
 use mathlib.Core.Bool.{cond as pick}

@@ -1,4 +1,4 @@
-// Image files cut into segments: one walk over the directory (paper 01, 'Image file').
+// Image files cut into segments: one walk over the directory (PROTOCOL 3, 'Image files').
 ghost use mathlib.Core.Path.{_≡_};
 ghost use Prim.Native.Nat.{_+_, _*_, _<_, _≤_};
 ghost use lib.ListN.{length};

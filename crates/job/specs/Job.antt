@@ -1,4 +1,4 @@
--- What a rehearsal's input asks for (paper 01, 'Rehearsal program and its transcript'): its form is checked first, then its image.
+-- What a rehearsal's input asks for (PROTOCOL 8, 'Rehearsal'): its form is checked first, then its image.
 use Prim.Native.Nat.{ℕ}
 use mathlib.Core.Bool.{cond as pick}
 use mathlib.Core.List.{List}

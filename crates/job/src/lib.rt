@@ -1,4 +1,4 @@
-// A rehearsal's job (paper 01, 'Rehearsal program and its transcript'): what its input asks for, its first step and its last
+// A rehearsal's job (PROTOCOL 8, 'Rehearsal'): what its input asks for, its first step and its last
 // line.
 ghost use mathlib.Core.Path.{_≡_};
 ghost use mathlib.Core.List.{List};
@@ -21,7 +21,7 @@ pub struct Setup {
 }
 
 // What an input asks for: the settings, its numbers and letters, and the image's lengths in bytes and in segments; or a
-// refusal, by paper 01's number.
+// refusal, by the number of PROTOCOL 7, 'Refusals'.
 pub struct Job {
     pub setup: Setup,
     pub script: Script,

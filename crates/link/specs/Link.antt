@@ -1,4 +1,4 @@
--- The link (paper 01, 'The link, for demand 3'): two queues of frames between two ends, and the events. Generic in the ends and in
+-- The link (PROTOCOL 6, 'Link'): two queues of frames between two ends, and the events. Generic in the ends and in
 -- what else may happen.
 use Prim.Native.Nat.{ℕ, _+_}
 use mathlib.Core.Bool.{cond as pick}

@@ -1,4 +1,4 @@
--- What 'never refused' says of a world (paper 01, 'Refused, and by whom').
+-- What 'never refused' says of a world (PROTOCOL 7, 'Refusals').
 use Prim.Native.Nat.{ℕ, _≤_}
 use mathlib.Core.Path.{_≡_}
 use mathlib.Core.List.{List, _∷_}

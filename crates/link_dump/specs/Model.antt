@@ -1,4 +1,4 @@
--- A dump over the link: its ends, its fresh world, and what is claimed of a reached world (paper 01, 'The link, for demand 3').
+-- A dump over the link: its ends, its fresh world, and what is claimed of a reached world (PROTOCOL 6, 'Link').
 use Prim.Native.Nat.{ℕ, _+_, _*_, _≤_, _<_}
 use mathlib.Core.Path.{_≡_}
 use mathlib.Core.Bool.{true}

@@ -1,4 +1,4 @@
--- A load over the link: its ends, its fresh world, and what 'the first k are in' means (paper 01, 'The link, for demand 3').
+-- A load over the link: its ends, its fresh world, and what 'the first k are in' means (PROTOCOL 6, 'Link').
 use Prim.Native.Nat.{ℕ, zero, suc, _≤_, _<_}
 use mathlib.Core.Path.{_≡_}
 use mathlib.Core.Bool.{Bool, true, false}

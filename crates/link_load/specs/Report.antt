@@ -1,4 +1,4 @@
--- What is claimed of a reached world of a load: the host's report, and 'loaded' in the auditor's words (paper 01, 'The link, for demand 3').
+-- What is claimed of a reached world of a load: the host's report, and 'loaded' in the auditor's words (PROTOCOL 6, 'Link').
 use Prim.Native.Nat.{ℕ, _+_, _*_, _≤_, _<_}
 use mathlib.Core.Path.{_≡_}
 use mathlib.Core.List.{List}

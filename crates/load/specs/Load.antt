@@ -1,4 +1,4 @@
--- The calls of the host's end of a load (paper 01, 'Host end'; 'Refused, and by whom'): refusals, frames, the count of frames
+-- The calls of the host's end of a load (PROTOCOL 5, 'Host end', and 7, 'Refusals'): refusals, frames, the count of frames
 -- sent, and what each call leaves.
 use Prim.Native.Nat.{ℕ, _+_, _*_, _%_}
 use mathlib.Core.Bool.{Bool, true, not, _&&_, cond as pick}
@@ -38,7 +38,7 @@ settled s = leb 1 (s .«segment_size») && leb (s .«segment_size») widest && l
 abbrev pub blank : Session → Bool
 blank h = eqb (h .verdict) 0 && eqb (h .position) 0 && eqb (h .repeats) 0 && eqb (h .sent) 0
 
--- the record is none of those that 01 calls bad, but for what needs N
+-- the record is none of those that are bad (PROTOCOL 7, 'Refusals'), but for what needs N
 abbrev pub sound : Settings → Session → Bool
 sound s h =
     leb (h .verdict) 4 && leb (h .repeats) (s .repeats) && leb (h .waiting) 1 && pick (eqb (h .waiting) 1) (blank h) true

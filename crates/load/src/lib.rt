@@ -1,4 +1,4 @@
-// The calls of the host's end of a load (paper 01, 'Host end').
+// The calls of the host's end of a load (PROTOCOL 5, 'Host end').
 ghost use mathlib.Core.Path.{_≡_};
 ghost use mathlib.Core.Bool.{true};
 ghost use Prim.Native.Nat.{_*_, _≤_};

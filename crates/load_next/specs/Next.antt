@@ -1,4 +1,4 @@
--- What the host's end of a load does next (paper 01, 'Host end'): its record, and whether the frame at the record's position
+-- What the host's end of a load does next (PROTOCOL 5, 'Host end'): its record, and whether the frame at the record's position
 -- goes out. N frames make the load. The count of frames sent is raised by the calls.
 use Prim.Native.Nat.{ℕ, _+_, _%_}
 use mathlib.Core.Bool.{Bool, true, false, _&&_, cond as pick}

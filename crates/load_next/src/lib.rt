@@ -1,4 +1,4 @@
-// What the host's end of a load does next (paper 01, 'Host end').
+// What the host's end of a load does next (PROTOCOL 5, 'Host end').
 ghost use mathlib.Core.Path.{_≡_};
 ghost use Prim.Native.Nat.{_+_, _%_, _<_};
 ghost use Rattle.load_next.specs.Next.{fresh, reached, repeated, ignores, goesOut, ends, more, answered, onRequest, onAnswer, react, onTimer};

@@ -1,4 +1,4 @@
--- The calls of the host's loop test (paper 01, 'Host end'): refusals, the count of frames, and what each call leaves. The
+-- The calls of the host's loop test (PROTOCOL 5, 'Host end'): refusals, the count of frames, and what each call leaves. The
 -- settings and the data stay the same over a test.
 use Prim.Native.Nat.{ℕ, _+_}
 use mathlib.Core.Bool.{Bool, _&&_, cond as pick}
@@ -27,7 +27,7 @@ counted h = record { sent = h .sent + 1; repeats = h .repeats; verdict = h .verd
 abbrev pub settled : Settings → ℕ → Bool
 settled s size = leb (s .repeats) 255 && leb size 1497
 
--- the record is none of those that 01 calls bad
+-- the record is none of those that are bad (PROTOCOL 7, 'Refusals')
 abbrev pub sound : Settings → Session → Bool
 sound s h = leb (h .verdict) 3 && leb (h .repeats) (s .repeats) && leb (h .sent) (s .repeats + 1)
 

@@ -1,4 +1,4 @@
-// The calls of the host's loop test (paper 01, 'Host end').
+// The calls of the host's loop test (PROTOCOL 5, 'Host end').
 ghost use mathlib.Core.Path.{_≡_};
 ghost use Prim.Native.Nat.{_≤_, _<_};
 ghost use lib.ListN.{length};

@@ -1,4 +1,4 @@
--- What the host's loop test does next (paper 01, 'Host end'): its record, and whether its frame goes out. The settings and the
+-- What the host's loop test does next (PROTOCOL 5, 'Host end'): its record, and whether its frame goes out. The settings and the
 -- data stay the same over a test. The count of frames is raised by the calls.
 use Prim.Native.Nat.{ℕ, _+_}
 use mathlib.Core.Bool.{Bool, true, false, _&&_, cond as pick}

@@ -1,4 +1,4 @@
-// What the host's loop test does next (paper 01, 'Host end').
+// What the host's loop test does next (PROTOCOL 5, 'Host end').
 ghost use mathlib.Core.Path.{_≡_};
 ghost use Prim.Native.Nat.{_<_};
 ghost use Rattle.looptest_next.specs.Next.{repeated, ended, same, returned, react, waits, again, onTimer};

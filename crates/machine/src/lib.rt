@@ -1,4 +1,4 @@
-// The machine end's calls (paper 01, 'Machine end'): a step on a frame; those on timers are machine_timer's.
+// The machine end's calls (PROTOCOL 4, 'Machine end'): a step on a frame; those on timers are machine_timer's.
 ghost use mathlib.Core.Path.{_≡_};
 ghost use mathlib.Core.Bool.{cond};
 ghost use Prim.Native.Nat.{_+_, _≤_};

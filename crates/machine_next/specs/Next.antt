@@ -1,4 +1,4 @@
--- What the machine end does on a frame and on a timer (paper 01, 'Machine end').
+-- What the machine end does on a frame and on a timer (PROTOCOL 4, 'Machine end').
 use Prim.Native.Nat.{ℕ, _+_, _%_, min}
 use mathlib.Core.Bool.{Bool, _&&_, _||_, cond as pick}
 use mathlib.Core.List.{List, [], _∷_}

@@ -1,4 +1,4 @@
-// What the machine end does next (paper 01, 'Machine end').
+// What the machine end does next (PROTOCOL 4, 'Machine end').
 ghost use mathlib.Core.Path.{_≡_};
 ghost use mathlib.Core.Bool.{false, _||_, cond};
 ghost use mathlib.Core.List.{List};

@@ -1,4 +1,4 @@
-// What the machine end sends by itself: at the start and at each timer (paper 01, 'Machine end').
+// What the machine end sends by itself: at the start and at each timer (PROTOCOL 4, 'Machine end').
 ghost use mathlib.Core.Path.{_≡_};
 ghost use mathlib.Core.List.{List, []};
 ghost use Prim.Native.Nat.{ℕ, _≤_};

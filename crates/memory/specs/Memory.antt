@@ -1,4 +1,4 @@
--- The machine's memory (paper 01, 'Machine end'): which loads fit, memory with a load laid over it, and the bytes of a dump reply.
+-- The machine's memory (PROTOCOL 4, 'Machine end'): which loads fit, memory with a load laid over it, and the bytes of a dump reply.
 use Prim.Native.Nat.{ℕ, _+_}
 use mathlib.Core.Bool.{Bool, cond as pick}
 use mathlib.Core.List.{List, _++_}

@@ -1,4 +1,4 @@
-// The machine's memory (paper 01, 'Machine end'): loads go to it, dump replies come from it.
+// The machine's memory (PROTOCOL 4, 'Machine end'): loads go to it, dump replies come from it.
 ghost use mathlib.Core.Path.{_≡_};
 ghost use mathlib.Core.List.{_++_};
 ghost use Prim.Native.Nat.{_+_, _≤_, _<_};

@@ -1,4 +1,4 @@
--- The messages (paper 01, 'Messages'): a case for each code, with its fields in the frame's order, as numbers and lists of bytes.
+-- The messages (PROTOCOL 2, 'Messages'): a case for each code, with its fields in the frame's order, as numbers and lists of bytes.
 use Prim.Native.Nat.{ℕ}
 use mathlib.Core.Bool.{Bool, _||_, cond as pick}
 use mathlib.Core.List.{List}

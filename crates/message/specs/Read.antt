@@ -1,4 +1,4 @@
--- Reading a frame: its fields in numbers, or a refusal (paper 01, 'Messages' and 'Refused, and by whom'), and the message
+-- Reading a frame: its fields in numbers, or a refusal (PROTOCOL 2, 'Messages', and 7, 'Refusals'), and the message
 -- that the numbers state. The order: empty, code, least length, excess, then the bytes in turn.
 use Prim.Native.Nat.{ℕ, _+_, _-_}
 use mathlib.Core.Bool.{cond as pick}

@@ -1,4 +1,4 @@
--- Writing a frame from its fields (paper 01, 'Messages' and 'Refused, and by whom').
+-- Writing a frame from its fields (PROTOCOL 2, 'Messages', and 7, 'Refusals').
 use Prim.Native.Nat.{ℕ, _^_}
 use mathlib.Core.Path.{_≡_}
 use mathlib.Core.Bool.{Bool, true, false, _&&_, cond as pick}

@@ -1,4 +1,4 @@
--- Laying a frame into a lent buffer: refusals 2 and 9, decided once for every writer (paper 01, 'Refused, and by whom').
+-- Laying a frame into a lent buffer: refusals 2 and 9, decided once for every writer (PROTOCOL 7, 'Refusals').
 use Prim.Native.Nat.{ℕ, _+_}
 use mathlib.Core.Bool.{Bool, cond as pick}
 use mathlib.Core.Path.{_≡_}

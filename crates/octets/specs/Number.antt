@@ -1,4 +1,4 @@
--- Numbers of several bytes, low byte first (paper 01, first paragraph).
+-- Numbers of several bytes, low byte first (PROTOCOL 1, 'Numbers').
 use Prim.Native.Nat.{ℕ, zero, suc, _+_, _*_, _/_, _%_, _<_}
 use mathlib.Core.List.{List, [], _∷_}
 use lib.ListN.{length, getD}

@@ -7,7 +7,7 @@ ghost use Rattle.octets.specs.Number.{number, low};
 ghost use Rattle.octets.specs.Lay.{fits, put, laid, Came};
 
 // What a writer answers: the length of the frame that stands at the buffer's start, and refusal 0; or length 0 and a
-// refusal, by paper 01's number, with the buffer unchanged.
+// refusal, by the number of PROTOCOL 7, 'Refusals', with the buffer unchanged.
 #[repr(C)]
 pub struct Written {
     pub length: usize,

@@ -1,4 +1,4 @@
--- A queue's places (paper 01, 'Rehearsal program and its transcript'): 16 places in a ring. The definitions hold for any record.
+-- A queue's places (PROTOCOL 8, 'Rehearsal'): 16 places in a ring. The definitions hold for any record.
 use Prim.Native.Nat.{ℕ, _+_, _-_, _%_}
 use mathlib.Core.Bool.{Bool, cond as pick}
 use mathlib.Core.List.{List, []}

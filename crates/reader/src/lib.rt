@@ -1,4 +1,4 @@
-// Reading frames (paper 01, 'Messages'): a frame's fields in numbers.
+// Reading frames (PROTOCOL 2, 'Messages'): a frame's fields in numbers.
 ghost use mathlib.Core.Path.{_≡_};
 ghost use Prim.Native.Nat.{_≤_};
 ghost use lib.ListN.{length};

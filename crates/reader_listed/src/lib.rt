@@ -1,4 +1,4 @@
-// Reading the two frames whose fields must be listed, codes 8 and 20 (paper 01, 'Messages').
+// Reading the two frames whose fields must be listed, codes 8 and 20 (PROTOCOL 2, 'Messages').
 ghost use mathlib.Core.Path.{_≡_};
 ghost use mathlib.Core.Bool.{cond};
 ghost use Prim.Native.Nat.{_≤_};

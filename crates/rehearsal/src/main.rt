@@ -1,5 +1,4 @@
-// Runs both ends over a line as standard input says, and prints the transcript (paper 01, 'Rehearsal program and its
-// transcript'). Every line is written by a step of `job` and `rehearse`; here bytes move between them and the system's calls.
+// Runs both ends over a line as standard input says, and prints the transcript (PROTOCOL 8, 'Rehearsal'). Every line is written by a step of `job` and `rehearse`; here bytes move between them and the system's calls.
 use job::Setup;
 use libc::STDIN_FILENO;
 use libc::STDOUT_FILENO;

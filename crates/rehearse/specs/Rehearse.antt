@@ -1,4 +1,4 @@
--- A rehearsal (paper 01, 'Rehearsal program and its transcript'): what each event does, and the whole transcript of an input, over the
+-- A rehearsal (PROTOCOL 8, 'Rehearsal'): what each event does, and the whole transcript of an input, over the
 -- definitions of the ends' calls, of the queues' places and of the lines.
 use Prim.Native.Nat.{ℕ}
 use mathlib.Core.Path.{_≡_}

@@ -1,4 +1,4 @@
-// The events of a rehearsal (paper 01, 'Rehearsal program and its transcript').
+// The events of a rehearsal (PROTOCOL 8, 'Rehearsal').
 ghost use mathlib.Core.Path.{_≡_};
 ghost use Rattle.octets.specs.Lay.{Came};
 ghost use Rattle.text.specs.Text.{placed};

@@ -1,5 +1,5 @@
--- Transcripts, computed from the definition: the paper's worked input gives the paper's transcript, and a malformed one `BAD 10`
--- (paper 01, 'Rehearsal program and its transcript').
+-- Transcripts, computed from the definition: the worked input of PROTOCOL 8, 'Rehearsal' gives the transcript there, and a malformed one `BAD 10`
+-- (PROTOCOL 8, 'Rehearsal').
 use Prim.Native.Nat.{ℕ}
 use Prim.Native.String.{String}
 use mathlib.Core.Path.{_≡_, refl}

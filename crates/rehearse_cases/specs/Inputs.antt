@@ -1,4 +1,4 @@
--- Inputs and what the definition says of them: the paper's worked input, and slips.
+-- Inputs and what the definition says of them: the worked input of PROTOCOL 8, 'Rehearsal', and slips.
 use Prim.Native.Nat.{ℕ}
 use Prim.Native.String.{String}
 use mathlib.Core.Path.{_≡_, refl}

@@ -1,4 +1,4 @@
--- The rehearsal program's input (paper 01, 'Rehearsal program and its transcript'): three lines, each ended by a line feed.
+-- The rehearsal program's input (PROTOCOL 8, 'Rehearsal'): three lines, each ended by a line feed.
 -- A text is the list of its characters' codes; `indexOf b` is the place of the first b in one, its length if there is none.
 use Prim.Native.Nat.{ℕ, _+_}
 use mathlib.Core.Bool.{Bool, true, _&&_, cond as pick}

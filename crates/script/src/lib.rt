@@ -1,4 +1,4 @@
-// The rehearsal program's input: its check, and where its parts stand (paper 01, 'Rehearsal program and its transcript').
+// The rehearsal program's input: its check, and where its parts stand (PROTOCOL 8, 'Rehearsal').
 ghost use mathlib.Core.Path.{_≡_};
 ghost use Prim.Native.Nat.{_+_, _≤_, _<_};
 ghost use lib.ListN.{length, drop};

@@ -1,4 +1,4 @@
--- What is answered of an image file and of one of its segments (paper 01, 'Image file'). The answers are the code's own types.
+-- What is answered of an image file and of one of its segments (PROTOCOL 3, 'Image files'). The answers are the code's own types.
 use Prim.Native.Nat.{ℕ, _+_}
 use mathlib.Core.Bool.{cond as pick}
 use mathlib.Core.List.{List}

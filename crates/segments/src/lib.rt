@@ -1,9 +1,9 @@
-// What is answered of an image file and of one of its segments (paper 01, 'Image file').
+// What is answered of an image file and of one of its segments (PROTOCOL 3, 'Image files').
 ghost use mathlib.Core.Path.{_≡_};
 ghost use mathlib.Core.Bool.{cond as pick};
 ghost use Rattle.segments.specs.Segments.{checked, noSegment, found};
 
-// How a file is cut into segments, or its refusal, by paper 01's number: mop_image of the header.
+// How a file is cut into segments, or its refusal, by the number of PROTOCOL 7, 'Refusals': mop_image of the header.
 #[repr(C)]
 pub struct Image {
     pub segments: u64,
@@ -13,7 +13,7 @@ pub struct Image {
 }
 
 // Where a segment's bytes stand in the file and how many they are, its memory address, and whether it is the last (1) or
-// not (0); or a refusal, by paper 01's number: mop_segment of the header.
+// not (0); or a refusal, by the number of PROTOCOL 7, 'Refusals': mop_segment of the header.
 #[repr(C)]
 pub struct Segment {
     pub at: usize,

@@ -1,4 +1,4 @@
--- The shape of every call of an end (paper 01, 'Refused, and by whom'): the refusals in their order, then what the end does.
+-- The shape of every call of an end (PROTOCOL 7, 'Refusals'): the refusals in their order, then what the end does.
 -- Generic in the end's record, H, and in what else it is lent to change, B: memory, a dump buffer, or nothing.
 use Prim.Native.Nat.{ℕ}
 use mathlib.Core.Path.{_≡_}

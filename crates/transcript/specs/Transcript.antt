@@ -1,4 +1,4 @@
--- The lines of a transcript (paper 01, 'Rehearsal program and its transcript').
+-- The lines of a transcript (PROTOCOL 8, 'Rehearsal').
 use Prim.Native.Nat.{ℕ}
 use mathlib.Core.Bool.{Bool, cond as pick}
 use mathlib.Core.List.{List, [], _∷_, _++_}

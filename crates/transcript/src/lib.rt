@@ -1,4 +1,4 @@
-// The lines of a rehearsal's transcript (paper 01, 'Rehearsal program and its transcript'). Each function answers refusal 9
+// The lines of a rehearsal's transcript (PROTOCOL 8, 'Rehearsal'). Each function answers refusal 9
 // for a buffer that is too short.
 ghost use mathlib.Core.Path.{_≡_};
 ghost use mathlib.Core.Bool.{cond};

@@ -91,7 +91,7 @@ hostRow timer verdict next = pick (eqb verdict next) (pick timer 17 16) (17 + mi
 abbrev pub refusalRow : ℕ → ℕ
 refusalRow n = pick (eqb n 5) 23 (pick (eqb n 6) 24 (pick (eqb n 7) 25 (pick (eqb n 8) 26 22)))
 
--- what a record means of the machine (paper 01, 'The link, for demand 3')
+-- what a record means of the machine (PROTOCOL 6, 'Link')
 abbrev pub reportRow : Bool → ℕ → ℕ
 reportRow waiting verdict = pick waiting 27 (28 + min verdict 4)
 

@@ -1,4 +1,4 @@
-// Writing frames (paper 01, 'Messages'): a writer for each code but 8 and 20, into a lent buffer.
+// Writing frames (PROTOCOL 2, 'Messages'): a writer for each code but 8 and 20, into a lent buffer.
 // Each answers the frame's length, or 2, then 9; the buffer behind the frame stays, and a refusal leaves it all.
 ghost use mathlib.Core.Path.{_≡_};
 ghost use mathlib.Core.List.{[], _∷_, _++_};

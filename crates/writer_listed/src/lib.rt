@@ -1,4 +1,4 @@
-// Writing the two frames whose fields must be listed, codes 8 and 20 (paper 01, 'Messages'): 4, then 2, then 9, as the other writers.
+// Writing the two frames whose fields must be listed, codes 8 and 20 (PROTOCOL 2, 'Messages'): 4, then 2, then 9, as the other writers.
 ghost use mathlib.Core.Path.{_≡_};
 ghost use Rattle.octets.specs.Lay.{Came};
 ghost use Rattle.message.specs.Message.{requestProgram, parameters};

@@ -128,7 +128,7 @@ impl Compare {
         }
     }
 
-    /// What paper 01 says outright of five bytes from 7 on, three at a time.
+    /// What the protocol says outright of five bytes from 7 on, three at a time.
     fn dump_set_cases(&mut self) {
         let end = Dump {
             settings: DumpSettings {

@@ -1,5 +1,5 @@
-//! The link between the two ends: two queues, first in first out (paper 01,
-//! "The link"). The events have the rehearsal's letters: h, k, x hand over,
+//! The link between the two ends: two queues, first in first out (PROTOCOL 6,
+//! "Link"). The events have the rehearsal's letters: h, k, x hand over,
 //! keep, drop from the host; t, u, y from the machine; m, n host and machine
 //! timer.
 

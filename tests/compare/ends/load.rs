@@ -152,7 +152,7 @@ impl Compare {
         }
     }
 
-    /// The steps of the rehearsal's example, and what paper 01 says outright.
+    /// The steps of the rehearsal's example, and what the protocol says outright.
     fn load_set_cases(&mut self) {
         let file = example();
         let end = Load {

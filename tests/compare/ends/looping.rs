@@ -113,7 +113,7 @@ impl Compare {
         self.random.bytes(length)
     }
 
-    /// What paper 01 says outright.
+    /// What the protocol says outright.
     fn loop_set_cases(&mut self) {
         let end = Loop {
             repeats: 1,

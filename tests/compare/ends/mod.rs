@@ -108,7 +108,7 @@ pub struct Case<'a, E: End> {
     event: Event<'a>,
     /// The reply buffer's length.
     room: usize,
-    /// The refusal by the paper, 0 for none.
+    /// The refusal by the protocol, 0 for none.
     wanted: u8,
 }
 
@@ -197,7 +197,7 @@ impl Compare {
             self.differ_in_step("in its place", &case, store, seen, expected);
         }
         if let Err(wanted) = judge(&case, answer, &before, &plain) {
-            self.differ_in_step("plain step against the paper", &case, store, answer, wanted);
+            self.differ_in_step("plain step against the protocol", &case, store, answer, wanted);
         }
 
         let outcome = Outcome {
@@ -236,7 +236,7 @@ impl Compare {
         self.tally.differ(what, input, seen, wanted);
     }
 
-    /// A call that is to give this record, frame and store, by the paper.
+    /// A call that is to give this record, frame and store, by the protocol.
     fn set_case<E: End>(
         &mut self,
         end: &E,
@@ -381,7 +381,7 @@ fn room_refusal(room: usize) -> u8 {
     if room < ROOM { 9 } else { 0 }
 }
 
-/// The first refusal in the paper's order, 0 for none.
+/// The first refusal in PROTOCOL 7's order, 0 for none.
 fn first(refusals: &[u8]) -> u8 {
     let found = refusals.iter().find(|&&refusal| refusal != 0);
     found.copied().unwrap_or(0)

@@ -1,4 +1,4 @@
-//! Whole runs of both ends over a link, and what paper 01 claims of each.
+//! Whole runs of both ends over a link, and what the protocol claims of each.
 
 use super::dump::{Dump, sent_most};
 use super::link::{Link, Mix, Side};
@@ -65,7 +65,7 @@ impl Job {
         }
     }
 
-    /// The paper's claim of a load, after any list of events.
+    /// PROTOCOL 6's claim of a load, after any list of events.
     fn claim(&self, link: &Link<Load>) -> Result<(), String> {
         let record = link.record;
         let segments = self.segments.len();
@@ -110,7 +110,7 @@ impl Job {
     }
 }
 
-/// The paper's claim of a dump, after any list of events.
+/// PROTOCOL 6's claim of a dump, after any list of events.
 fn dump_claim(link: &Link<Dump>, memory: &[u8], buffer: &[u8]) -> Result<(), String> {
     let (record, settings) = (link.record, link.host.settings);
     let most = sent_most(settings, record.replies);
@@ -135,7 +135,7 @@ fn dump_claim(link: &Link<Dump>, memory: &[u8], buffer: &[u8]) -> Result<(), Str
 }
 
 impl Compare {
-    /// The rehearsal's example, with the transcript that the paper gives.
+    /// The rehearsal's example, with the transcript that PROTOCOL 8 gives.
     pub fn set_run(&mut self) {
         let file = example();
         let host = Load {
