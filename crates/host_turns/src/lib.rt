@@ -1,5 +1,6 @@
 // The host's turns in a rehearsal: on the machine's first frame, and at its timer (PROTOCOL 8, 'Rehearsal').
 ghost use mathlib.Core.Path.{_≡_};
+ghost use mathlib.Core.Bool.{cond};
 ghost use Rattle.load.specs.Load.{loadFrame, loadTimer};
 ghost use Rattle.queue.specs.Queue.{first};
 ghost use Rattle.host_turns.specs.Turn.{onFirst, Turned};
@@ -16,7 +17,7 @@ pub struct Turn {
 }
 
 // The machine's first frame is handed over to the host; without one nothing happens.
-pub fn on_frame(
+fn on_frame(
     settings: Settings,
     session: Session,
     queue: Queue,
@@ -51,7 +52,7 @@ pub fn on_frame(
 }
 
 // The host's timer.
-pub fn on_timer(
+fn on_timer(
     settings: Settings,
     session: Session,
     queue: Queue,
@@ -71,4 +72,37 @@ pub fn on_timer(
         queue,
         sent,
     }
+}
+
+// The host's timer, or the machine's first frame.
+pub fn act(
+    settings: Settings,
+    session: Session,
+    queue: Queue,
+    timer: bool,
+    file: &[u8],
+    from: Queue,
+    from_places: &[[u8; 1500]; 16],
+    places: &mut [[u8; 1500]; 16],
+    reply: &mut [u8],
+) -> Turn
+    ensures { λ r. ⌜ Turned
+        (cond timer (loadTimer settings session (now (file .entry)) (now (reply .entry)))
+        (onFirst (first from (now («from_places» .entry))) session tt (now (reply .entry))
+        (loadFrame settings session (now (file .entry)) (first from (now («from_places» .entry))) (now (reply .entry)))))
+        queue (now (places .entry)) (r .session) tt (r .sent) (now (reply .exit)) (r .queue) (now (places .exit)) ⌝ }
+{
+    if timer {
+        return on_timer(settings, session, queue, file, places, reply);
+    }
+    on_frame(
+        settings,
+        session,
+        queue,
+        file,
+        from,
+        from_places,
+        places,
+        reply,
+    )
 }

@@ -16,9 +16,6 @@ pub use machine_next::Machine;
 use machine_next::Sends;
 pub use machine_next::Settings;
 pub use machine_next::Stepped;
-pub use machine_timer::start_dump;
-pub use machine_timer::start_load;
-pub use machine_timer::timer;
 use message::Fields;
 use octets::Written;
 

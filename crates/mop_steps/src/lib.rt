@@ -20,7 +20,7 @@ pub extern "C" fn mop_machine_start_load(
 ) -> machine::Stepped
     ensures { λ r. ⌜ Leaves (machineTimer settings requesting (now (memory .entry)) (now (reply .entry))) (r .machine) (r .answer) (now (memory .entry)) (now (reply .exit)) ⌝ }
 {
-    machine::start_load(settings, memory, reply)
+    machine_timer::start_load(settings, memory, reply)
 }
 
 #[no_mangle]
@@ -31,7 +31,7 @@ pub extern "C" fn mop_machine_start_dump(
 ) -> machine::Stepped
     ensures { λ r. ⌜ Leaves (machineTimer settings offering (now (memory .entry)) (now (reply .entry))) (r .machine) (r .answer) (now (memory .entry)) (now (reply .exit)) ⌝ }
 {
-    machine::start_dump(settings, memory, reply)
+    machine_timer::start_dump(settings, memory, reply)
 }
 
 #[no_mangle]
@@ -56,7 +56,7 @@ pub extern "C" fn mop_machine_timer(
 ) -> machine::Stepped
     ensures { λ r. ⌜ Leaves (machineTimer settings machine (now (memory .entry)) (now (reply .entry))) (r .machine) (r .answer) (now (memory .entry)) (now (reply .exit)) ⌝ }
 {
-    machine::timer(settings, machine, memory, reply)
+    machine_timer::timer(settings, machine, memory, reply)
 }
 
 // The host's load: mop_load of the header.

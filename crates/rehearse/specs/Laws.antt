@@ -2,7 +2,9 @@
 use Prim.Native.Nat.{ℕ}
 use mathlib.Core.Path.{_≡_, refl, ap, sym, subst, _∙_}
 use mathlib.Core.List.{List}
-use borrow.Author.Tests.{ne-eqb}
+use mathlib.Core.Bool.{Bool, true, false}
+use lib.Dec.{eqb}
+use borrow.Author.Tests.{eqb-true, eqb-false, ne-eqb}
 use Rattle.step.specs.Step.{Outcome}
 use Rattle.machine_next.specs.declared.Machine.{Machine}
 use Rattle.load_next.specs.declared.Session.{Session}
@@ -12,36 +14,52 @@ use Rattle.job.specs.declared.Setup.{Setup}
 use Rattle.job.specs.declared.Ends.{Ends}
 use Rattle.job.specs.Run.{Run, Step, machineMoves, hostMoves, Left}
 use Rattle.job.specs.Laws.{machine-left, host-left}
-use Rattle.rehearse.specs.declared.Turn.{Turn}
+use Rattle.machine_turns.specs.declared.Turn.{Turn as MachineTurn}
 use Rattle.rehearse.specs.declared.Move.{Move}
-use Rattle.rehearse.specs.Inner.{move, machineMoved, hostMoved}
-use Rattle.rehearse.specs.Rehearse.{still, with, event}
+use Rattle.rehearse.specs.Inner.{machineMoved, hostMoved, machineSends, machineActs, hostActs, turn, leaving}
+use Rattle.rehearse.specs.Rehearse.{with, event, hostSends}
 
--- an end's turn
-module _ (w : Run) (m : Move) where
-  pub machine-moves : (o : Outcome Machine (List ℕ)) (t : Turn) {memory reply : List ℕ} {places : List (List ℕ)}
-      → Turned o (w .ends .«from_machine») (w .machinePlaces) (t .machine) memory (t .sent) reply (t .queue) places → m ≡ machineMoved (w .ends) t
-      → Left (machineMoves w o) (m .ends) (m .sent) memory (w .hostPlaces) places reply
-  machine-moves o t {memory} {reply} {places} h e =
-      subst (λ (x : Move). Left (machineMoves w o) (x .ends) (x .sent) memory (w .hostPlaces) places reply) (sym e) (machine-left w o h)
+-- the ways through a turn: the machine's, the host's, none
+module _ (s : Setup) (file : List ℕ) (w : Run) (letter : ℕ) (m : Move) {a : Bool} (e : a ≡ machineSends letter) where
+  pub machine-turn : a ≡ true → (t : MachineTurn) {memory reply : List ℕ} {places : List (List ℕ)}
+      → Turned (machineActs s w (eqb letter 110)) (w .ends .«from_machine») (w .machinePlaces) (t .machine) memory (t .sent) reply (t .queue) places
+      → m ≡ machineMoved (w .ends) t → Left (turn s file w letter) (m .ends) (m .sent) memory (w .hostPlaces) places reply
+  machine-turn h t {memory} {reply} {places} u f =
+      let o = machineActs s w (eqb letter 110) in
+      rw (← e, h) (subst (λ (x : Move). Left (machineMoves w o) (x .ends) (x .sent) memory (w .hostPlaces) places reply) (sym f) (machine-left w o u))
 
-  pub host-moves : (o : Outcome Session Unit) (t : HostTurn) {reply : List ℕ} {places : List (List ℕ)}
-      → Turned o (w .ends .«from_host») (w .hostPlaces) (t .session) tt (t .sent) reply (t .queue) places → m ≡ hostMoved (w .ends) t
-      → Left (hostMoves w o) (m .ends) (m .sent) (w .memory) places (w .machinePlaces) reply
-  host-moves o t {reply} {places} h e =
-      subst (λ (x : Move). Left (hostMoves w o) (x .ends) (x .sent) (w .memory) places (w .machinePlaces) reply) (sym e) (host-left w o h)
+  module _ (n : a ≡ false) {b : Bool} (g : b ≡ hostSends letter) where
+    pub host-turn : b ≡ true → (t : HostTurn) {reply : List ℕ} {places : List (List ℕ)}
+        → Turned (hostActs s file w (eqb letter 109)) (w .ends .«from_host») (w .hostPlaces) (t .session) tt (t .sent) reply (t .queue) places
+        → m ≡ hostMoved (w .ends) t → Left (turn s file w letter) (m .ends) (m .sent) (w .memory) places (w .machinePlaces) reply
+    host-turn h t {reply} {places} u f =
+        let o = hostActs s file w (eqb letter 109) in
+        rw (← e, n, ← g, h) (subst (λ (x : Move). Left (hostMoves w o) (x .ends) (x .sent) (w .memory) places (w .machinePlaces) reply) (sym f) (host-left w o u))
 
-  pub stays : m ≡ move (w .ends) 0 → Left (still w) (m .ends) (m .sent) (w .memory) (w .hostPlaces) (w .machinePlaces) (w .reply)
-  stays e = (ap (λ (x : Move). x .ends) e, ap (λ (x : Move). x .sent) e, refl, refl, refl, refl)
+    pub no-turn : b ≡ false → m ≡ record { ends = w .ends; sent = 0 }
+        → Left (turn s file w letter) (m .ends) (m .sent) (w .memory) (w .hostPlaces) (w .machinePlaces) (w .reply)
+    no-turn h f = rw (← e, n, ← g, h) (ap (λ (x : Move). x .ends) f, ap (λ (x : Move). x .sent) f, refl, refl, refl, refl)
 
--- a frame leaves
-pub leaves : (t : Step) (f : Ends → Ends) (m r : Move) {memory : List ℕ} {hosts machines : List (List ℕ)} {reply : List ℕ}
-    → Left t (m .ends) (m .sent) memory hosts machines reply → r ≡ move (f (m .ends)) (m .sent)
-    → Left (with t (f (t .run .ends))) (r .ends) (r .sent) memory hosts machines reply
-leaves t f m r l e = (ap (λ (x : Move). x .ends) e ∙ ap f (l .0), ap (λ (x : Move). x .sent) e ∙ l .1, l .2, l .3, l .4, l .5)
+-- a number that is one, or is not
+either-by : (P : ℕ → Type 0) (n k : ℕ) (b : Bool) → eqb n k ≡ b → P k → ((n ≡ k → ⊥) → P n) → P n
+either-by P n k true e f g = subst P (sym (eqb-true n k e)) f
+either-by P n k false e f g = g (eqb-false n k e)
 
--- a letter that is none
-pub other : (s : Setup) (file : List ℕ) (w : Run) (letter : ℕ) → (letter ≡ 104 → ⊥) → (letter ≡ 107 → ⊥) → (letter ≡ 120 → ⊥) → (letter ≡ 116 → ⊥)
-    → (letter ≡ 117 → ⊥) → (letter ≡ 121 → ⊥) → (letter ≡ 109 → ⊥) → (letter ≡ 110 → ⊥) → still w ≡ event s file w letter
-other s file w letter h k x t u y m n =
-    rw (ne-eqb letter 104 h, ne-eqb letter 107 k, ne-eqb letter 120 x, ne-eqb letter 116 t, ne-eqb letter 117 u, ne-eqb letter 121 y, ne-eqb letter 109 m, ne-eqb letter 110 n)
+either : (P : ℕ → Type 0) (n k : ℕ) → P k → ((n ≡ k → ⊥) → P n) → P n
+either P n k = either-by P n k (eqb n k) refl
+
+-- the turn, then the frame that leaves: the event
+pub is-event : (s : Setup) (file : List ℕ) (w : Run) (letter : ℕ)
+    → with (turn s file w letter) (leaving letter (turn s file w letter .run .ends)) ≡ event s file w letter
+is-event s file w letter =
+    let P : ℕ → Type 0 = λ n. with (turn s file w n) (leaving n (turn s file w n .run .ends)) ≡ event s file w n in
+    either P letter 104 refl (λ h. either P letter 107 refl (λ k. either P letter 120 refl (λ x. either P letter 116 refl
+    (λ t. either P letter 117 refl (λ u. either P letter 121 refl (λ y. either P letter 109 refl (λ m. either P letter 110 refl
+    (λ n. rw (ne-eqb letter 104 h, ne-eqb letter 107 k, ne-eqb letter 120 x, ne-eqb letter 116 t, ne-eqb letter 117 u, ne-eqb letter 121 y, ne-eqb letter 109 m, ne-eqb letter 110 n)))))))))
+
+pub left : (s : Setup) (file : List ℕ) (w : Run) (letter : ℕ) (m : Move) (r : Ends) {memory : List ℕ} {hosts machines : List (List ℕ)} {reply : List ℕ}
+    → Left (turn s file w letter) (m .ends) (m .sent) memory hosts machines reply → r ≡ leaving letter (m .ends)
+    → Left (event s file w letter) r (m .sent) memory hosts machines reply
+left s file w letter m r {memory} {hosts} {machines} {reply} l e =
+    subst (λ (t : Step). Left t r (m .sent) memory hosts machines reply) (is-event s file w letter)
+    (e ∙ ap (leaving letter) (l .0), l .1, l .2, l .3, l .4, l .5)

@@ -3,8 +3,8 @@ use mathlib.Core.List.{List}
 use Rattle.machine.specs.Machine.{machineFrame}
 use Rattle.host_turns.specs.Laws.{turned, none-first, some-first}
 use borrow.Author.Needs.{needs}
-use Rattle.rehearse.proofs.on_frame.Statement.{statement}
-use Rattle.rehearse.proofs.on_frame.Tie as tie
+use Rattle.machine_turns.proofs.on_frame.Statement.{statement}
+use Rattle.machine_turns.proofs.on_frame.Tie as tie
 
 first-requires : tie.Need-first-requires
 first-requires c κs = search needs

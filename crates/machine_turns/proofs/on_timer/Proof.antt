@@ -1,8 +1,8 @@
 use Rattle.machine_timer.specs.Timer.{machineTimer}
 use Rattle.host_turns.specs.Laws.{turned}
 use borrow.Author.Needs.{needs}
-use Rattle.rehearse.proofs.on_timer.Statement.{statement}
-use Rattle.rehearse.proofs.on_timer.Tie as tie
+use Rattle.machine_turns.proofs.on_timer.Statement.{statement}
+use Rattle.machine_turns.proofs.on_timer.Tie as tie
 
 timer-requires : tie.Need-timer-requires
 timer-requires c κs = search needs
