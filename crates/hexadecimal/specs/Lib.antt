@@ -1,4 +1,4 @@
 pub mod Hexadecimal
 pub mod Line
 pub mod Laws
-pub mod Run
+pub mod RunLaws

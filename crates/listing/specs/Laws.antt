@@ -23,7 +23,7 @@ use Rattle.pattern.specs.MostLaws.{weigh, every, filling-most}
 use Rattle.hexadecimal.specs.declared.Line.{Line}
 use Rattle.hexadecimal.specs.Hexadecimal.{Decoded, notHexadecimal, spelled, isDigit, pairs, hexadecimal}
 use Rattle.hexadecimal.specs.Line.{Held, stepped, run, opened, ended}
-use Rattle.hexadecimal.specs.Run.{capped, run-decoded}
+use Rattle.hexadecimal.specs.RunLaws.{capped, run-decoded}
 use Rattle.listing.specs.Frame.{patterns, reasonRow, numbers, text}
 use Rattle.listing.specs.Listing.{printed, onto, lines, each, listing, closed, fold}
 

@@ -3,7 +3,7 @@ use borrow.Author.Tests.{not-true, not-false}
 use Rattle.octets.specs.Lay.{written}
 use Rattle.hexadecimal.specs.declared.Line.{Line}
 use Rattle.hexadecimal.specs.Hexadecimal.{hexadecimal}
-use Rattle.hexadecimal.specs.Run.{decoded-not, decoded-short, decoded-whole}
+use Rattle.hexadecimal.specs.RunLaws.{decoded-not, decoded-short, decoded-whole}
 use borrow.Author.Needs.{needs}
 use Rattle.hexadecimal.proofs.decode.Statement.{statement}
 use Rattle.hexadecimal.proofs.decode.Tie as tie

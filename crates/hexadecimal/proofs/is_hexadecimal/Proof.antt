@@ -2,7 +2,7 @@ use mathlib.Core.Bool.{not}
 use mathlib.Core.List.{[]}
 use mathlib.Core.Path.{ap, _∙_}
 use Rattle.hexadecimal.specs.Line.{isFoul}
-use Rattle.hexadecimal.specs.Run.{run-is}
+use Rattle.hexadecimal.specs.RunLaws.{run-is}
 use borrow.Author.Needs.{needs}
 use Rattle.hexadecimal.proofs.is_hexadecimal.Statement.{statement}
 use Rattle.hexadecimal.proofs.is_hexadecimal.Tie as tie

@@ -3,7 +3,7 @@ use mathlib.Core.Path.{_≡_, refl, sym, ap, _∙_}
 use native.Mathlib.Omega.{arith}
 use lib.ListN.{length, getD, drop}
 use Rattle.hexadecimal.specs.Line.{Held, held, opened, stepped, run}
-use Rattle.hexadecimal.specs.Run.{run-at, run-done}
+use Rattle.hexadecimal.specs.RunLaws.{run-at, run-done}
 use Rattle.hexadecimal.proofs.run.Statement.{statement}
 use Rattle.hexadecimal.proofs.run.Tie as tie
 
