@@ -8,7 +8,7 @@ use native.Mathlib.Omega.{arith}
 use lib.ListN.{length, take, getD, replicate}
 use lib.Dec.{eqb}
 use Rattle.octets.specs.Number.{number, low}
-use Rattle.octets.specs.Lay.{over}
+use Rattle.buffer.specs.Lay.{over}
 use Rattle.memory.specs.Memory.{fits, bytesFrom}
 use Rattle.message.specs.Message.{dumpData}
 use Rattle.message.specs.Read.{find, fields, part}

@@ -7,9 +7,9 @@ use native.Mathlib.Omega.{arith}
 use lib.ListN.{length}
 use lib.Dec.{eqb, leb, ltb}
 use borrow.Author.Tests.{leb-true, eqb-true, eqb-false}
-use Rattle.octets.specs.declared.Written.{Written}
+use Rattle.buffer.specs.declared.Written.{Written}
 use Rattle.octets.specs.TestLaws.{by-cases, both}
-use Rattle.octets.specs.Lay.{Came, written}
+use Rattle.buffer.specs.Lay.{Came, written}
 use Rattle.message.specs.declared.Fields.{Fields}
 use Rattle.message.specs.Message.{requestDump, dumpComplete}
 use Rattle.message.specs.Read.{fields, part}

@@ -3,7 +3,7 @@ ghost use mathlib.Core.Path.{_≡_};
 ghost use mathlib.Core.List.{List};
 ghost use Prim.Native.Nat.{ℕ, _+_, _≤_, _<_, _^_};
 ghost use lib.ListN.{length};
-ghost use Rattle.octets.specs.Lay.{refused, Came};
+ghost use Rattle.buffer.specs.Lay.{refused, Came};
 ghost use Rattle.message.specs.Message.{requestDump};
 ghost use Rattle.message.specs.Write.{sent};
 ghost use Rattle.step.specs.Step.{gives, Leaves};
@@ -14,7 +14,7 @@ use dump_next::Next;
 use dump_next::Sends;
 use dump_next::Session;
 use dump_next::Settings;
-use octets::Written;
+use buffer::Written;
 
 // What a step gives: the next record, and the length of the frame to send, 0 for none, or a refusal.
 #[repr(C)]

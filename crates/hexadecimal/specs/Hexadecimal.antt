@@ -3,7 +3,7 @@ use Prim.Native.Nat.{ℕ, _+_, _*_}
 use mathlib.Core.Bool.{Bool, true, false, _&&_, cond as pick}
 use mathlib.Core.List.{List, [], _∷_, _++_}
 use lib.Dec.{ltb}
-use Rattle.octets.specs.Lay.{Output, refuse}
+use Rattle.buffer.specs.Lay.{Output, refuse}
 use Rattle.digits.specs.Digits.{nibble, digits}
 use Rattle.text.specs.Text.{placed}
 

@@ -10,7 +10,7 @@ use lib.Dec.{ltb}
 use borrow.Author.Tests.{lt-ltb}
 use Rattle.octets.specs.Number.{Octets}
 use Rattle.octets.specs.NumberLaws.{octets-tail}
-use Rattle.octets.specs.Lay.{refused, written, Came}
+use Rattle.buffer.specs.Lay.{refused, written, Came}
 use Rattle.digits.specs.Digits.{digit, digits}
 use Rattle.digits.specs.Laws.{length-digits, nibble-digit}
 use Rattle.text.specs.Text.{placed, Added}

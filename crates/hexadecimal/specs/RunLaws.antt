@@ -10,7 +10,7 @@ use lib.ListN.{length, getD, take, drop, set, length-set, length-take, length-ap
 use lib.Seq.{drop-cons, take-all, take-append-le, take-suc-set, set-out, set-split}
 use lib.Dec.{ltb}
 use borrow.Author.Tests.{ltb-true, ltb-false, lt-ltb}
-use Rattle.octets.specs.Lay.{Output, refused, written, over, Came}
+use Rattle.buffer.specs.Lay.{Output, refused, written, over, Came}
 use Rattle.octets.specs.TestLaws.{by-cases}
 use Rattle.digits.specs.Digits.{nibble}
 use Rattle.text.specs.Laws.{by-test, placed-short, placed-whole, over-append}

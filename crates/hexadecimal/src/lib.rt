@@ -4,11 +4,11 @@ ghost use mathlib.Core.List.{_++_};
 ghost use Prim.Native.Nat.{_+_, _*_};
 ghost use lib.ListN.{length};
 ghost use lib.Dec.{ltb};
-ghost use Rattle.octets.specs.Lay.{Came};
+ghost use Rattle.buffer.specs.Lay.{Came};
 ghost use Rattle.text.specs.Text.{placed, Added};
 ghost use Rattle.hexadecimal.specs.Hexadecimal.{pairs, address, hexadecimal, isHexadecimal, decoded};
 ghost use Rattle.hexadecimal.specs.Line.{fresh, next, kept, isFoul, opened, run};
-use octets::Written;
+use buffer::Written;
 
 // ---- Written.
 

@@ -4,7 +4,7 @@ use mathlib.Core.Bool.{cond as pick}
 use mathlib.Core.List.{List}
 use lib.ListN.{take, drop}
 use lib.Dec.{eqb}
-use Rattle.octets.specs.Lay.{Output}
+use Rattle.buffer.specs.Lay.{Output}
 use Rattle.hexadecimal.specs.Hexadecimal.{hexadecimal, decoded}
 use Rattle.segments.specs.Segments.{checked as imageChecked}
 use Rattle.script.specs.declared.Script.{Script}

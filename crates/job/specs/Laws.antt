@@ -5,8 +5,8 @@ use mathlib.Core.Bool.{Bool, false}
 use mathlib.Core.List.{List}
 use lib.ListN.{take, drop}
 use borrow.Author.Tests.{eq-eqb, ne-eqb}
-use Rattle.octets.specs.declared.Written.{Written}
-use Rattle.octets.specs.Lay.{Output, Came}
+use Rattle.buffer.specs.declared.Written.{Written}
+use Rattle.buffer.specs.Lay.{Output, Came}
 use Rattle.text.specs.Text.{placed}
 use Rattle.hexadecimal.specs.Hexadecimal.{hexadecimal, decoded}
 use Rattle.segments.specs.declared.Image.{Image}

@@ -3,14 +3,14 @@
 ghost use mathlib.Core.Path.{_≡_};
 ghost use mathlib.Core.List.{List};
 ghost use Prim.Native.Nat.{ℕ};
-ghost use Rattle.octets.specs.Lay.{Came};
+ghost use Rattle.buffer.specs.Lay.{Came};
 ghost use Rattle.text.specs.Text.{placed};
 ghost use Rattle.transcript.specs.Transcript.{badLine};
 ghost use Rattle.job.specs.Job.{setup, job, reading};
 ghost use Rattle.job.specs.Run.{run, freshEnds, begin, beginLine, endLine, Left};
 use load_next::Session;
 use machine_next::Machine;
-use octets::Written;
+use buffer::Written;
 use queue::Queue;
 use script::Script;
 

@@ -5,7 +5,7 @@ use mathlib.Core.Bool.{cond as pick}
 use mathlib.Core.List.{List, [], _∷_, _++_}
 use lib.ListN.{length, take}
 use lib.Dec.{eqb}
-use Rattle.octets.specs.declared.Written.{Written}
+use Rattle.buffer.specs.declared.Written.{Written}
 use Rattle.message.specs.Write.{layout}
 use Rattle.step.specs.Step.{Outcome, Sending, nothing, sends}
 

@@ -6,7 +6,7 @@ use native.Mathlib.Omega.{arith}
 use mathlib.Core.Option.{some}
 use lib.ListN.{length, getD, drop, length-append, drop-of-length-le, List·getD-append, List·getD-eq-default}
 use lib.Seq.{take-at, drop-append-add, drop-drop, getD-append-add, getD-drop}
-use Rattle.octets.specs.Lay.{over}
+use Rattle.buffer.specs.Lay.{over}
 use Rattle.memory.specs.Memory.{bytesFrom}
 use Rattle.memory.specs.Laws.{length-bytesFrom, getD-bytesFrom, bytesFrom-joined}
 use Rattle.link.specs.ByteLaws.{is-there}

@@ -9,7 +9,7 @@ use lib.ListN.{length, length-take, length-drop}
 use lib.Dec.{eqb, leb, ltb}
 use borrow.Author.Tests.{eqb-true, eqb-false, leb-true, ltb-true, ltb-false}
 use Rattle.octets.specs.TestLaws.{by-cases, both}
-use Rattle.octets.specs.Lay.{over}
+use Rattle.buffer.specs.Lay.{over}
 use Rattle.message.specs.Message.{requestDump, dumpComplete}
 use Rattle.message.specs.Read.{fields, part}
 use Rattle.message.specs.Write.{layout}

@@ -13,7 +13,7 @@ use mathlib.Core.Bool.{true}
 use mathlib.Core.List.{List}
 use native.Mathlib.Omega.{arith}
 use lib.ListN.{length, getElem?}
-use Rattle.octets.specs.declared.Written.{Written}
+use Rattle.buffer.specs.declared.Written.{Written}
 use Rattle.memory.specs.Memory.{bytesFrom}
 use Rattle.step.specs.Step.{Leaves}
 use Rattle.machine_next.specs.declared.Machine.{Machine}

@@ -11,8 +11,8 @@ use lib.Dec.{eqb, ltb}
 use borrow.Author.Tests.{ne-eqb, lt-ltb, le-ltb, ltb-true, ltb-false}
 use Rattle.bytes.specs.Bytes.{indexOf}
 use Rattle.octets.specs.TestLaws.{by-cases}
-use Rattle.octets.specs.declared.Written.{Written}
-use Rattle.octets.specs.Lay.{Came}
+use Rattle.buffer.specs.declared.Written.{Written}
+use Rattle.buffer.specs.Lay.{Came}
 use Rattle.message.specs.declared.Fields.{Fields}
 use Rattle.message.specs.Read.{byte, refusedFields, shortest, longest, Row, rows, find, frame, fields}
 use Rattle.message.specs.Laws.{Each, by-find}

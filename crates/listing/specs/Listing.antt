@@ -4,7 +4,7 @@ use mathlib.Core.Path.{_≡_}
 use mathlib.Core.Bool.{cond as pick}
 use mathlib.Core.List.{List, [], _∷_, _++_}
 use lib.Dec.{eqb}
-use Rattle.octets.specs.Lay.{Came}
+use Rattle.buffer.specs.Lay.{Came}
 use Rattle.message.specs.Read.{fields}
 use Rattle.text.specs.Text.{chars, placed}
 use Rattle.hexadecimal.specs.Hexadecimal.{Decoded, notHexadecimal, spelled, hexadecimal}

@@ -3,7 +3,7 @@ ghost use mathlib.Core.Path.{_≡_};
 ghost use mathlib.Core.List.{_++_};
 ghost use Prim.Native.Nat.{_≤_};
 ghost use lib.ListN.{length};
-ghost use Rattle.octets.specs.Lay.{Came};
+ghost use Rattle.buffer.specs.Lay.{Came};
 ghost use Rattle.text.specs.Text.{chars, placed};
 ghost use Rattle.pattern.specs.Pattern.{filling};
 ghost use Rattle.hexadecimal.specs.Hexadecimal.{spelled};
@@ -12,7 +12,7 @@ ghost use Rattle.listing.specs.Frame.{programRow, formRow, reasonRow, nu
 ghost use Rattle.listing.specs.Listing.{printed, fed, closed, Feeds};
 use hexadecimal::Line;
 use message::Fields;
-use octets::Written;
+use buffer::Written;
 
 // The row of the words behind a program type.
 fn program_row(program: u8) -> usize

@@ -2,7 +2,7 @@
 ghost use mathlib.Core.Path.{_≡_};
 ghost use mathlib.Core.Bool.{true};
 ghost use Prim.Native.Nat.{_*_, _≤_};
-ghost use Rattle.octets.specs.Lay.{Came, refused};
+ghost use Rattle.buffer.specs.Lay.{Came, refused};
 ghost use Rattle.message.specs.Write.{sent};
 ghost use Rattle.directory.specs.Directory.{addresses};
 ghost use Rattle.step.specs.Step.{gives, Leaves};
@@ -14,7 +14,7 @@ use directory::Region;
 use load_next::Next;
 use load_next::Session;
 use load_next::Settings;
-use octets::Written;
+use buffer::Written;
 
 // What a step gives: the next record, and the length of the frame to send, 0 for none, or a refusal.
 #[repr(C)]

@@ -7,9 +7,9 @@ use native.Mathlib.Omega.{arith}
 use lib.ListN.{length}
 use lib.Dec.{leb}
 use borrow.Author.Tests.{leb-true}
-use Rattle.octets.specs.declared.Written.{Written}
+use Rattle.buffer.specs.declared.Written.{Written}
 use Rattle.octets.specs.TestLaws.{both}
-use Rattle.octets.specs.Lay.{written}
+use Rattle.buffer.specs.Lay.{written}
 use Rattle.step.specs.Step.{unless, gives, Leaves}
 use Rattle.step.specs.Laws.{met, none, call-accepted}
 use Rattle.looptest_next.specs.declared.Settings.{Settings}

@@ -2,12 +2,12 @@
 ghost use mathlib.Core.Path.{_≡_};
 ghost use Prim.Native.Nat.{_≤_, _<_};
 ghost use lib.ListN.{length};
-ghost use Rattle.octets.specs.Lay.{written, refused};
+ghost use Rattle.buffer.specs.Lay.{written, refused};
 ghost use Rattle.step.specs.Step.{gives, Leaves};
 ghost use Rattle.looptest.specs.Loop.{begun, counted, refusal, goesOut, loopStart, loopFrame, loopTimer};
 use looptest_next::Session;
 use looptest_next::Settings;
-use octets::Written;
+use buffer::Written;
 
 // What a step gives: the next record, and the length of the frame to send, 0 for none, or a refusal.
 #[repr(C)]

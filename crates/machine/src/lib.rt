@@ -3,7 +3,7 @@ ghost use mathlib.Core.Path.{_≡_};
 ghost use mathlib.Core.Bool.{cond};
 ghost use Prim.Native.Nat.{_+_, _≤_};
 ghost use lib.ListN.{length};
-ghost use Rattle.octets.specs.Lay.{Came};
+ghost use Rattle.buffer.specs.Lay.{Came};
 ghost use Rattle.memory.specs.Memory.{deposited};
 ghost use Rattle.message.specs.Message.{loopedData};
 ghost use Rattle.message.specs.Read.{part};
@@ -17,7 +17,7 @@ use machine_next::Sends;
 pub use machine_next::Settings;
 pub use machine_next::Stepped;
 use message::Fields;
-use octets::Written;
+use buffer::Written;
 
 // Code 26: the frame's data again.
 fn looped(f: Fields, frame: &[u8], reply: &mut [u8]) -> Written

@@ -4,13 +4,13 @@ ghost use mathlib.Core.Bool.{false, _||_, cond};
 ghost use mathlib.Core.List.{List};
 ghost use Prim.Native.Nat.{ℕ, min};
 ghost use lib.ListN.{length};
-ghost use Rattle.octets.specs.Lay.{refused};
+ghost use Rattle.buffer.specs.Lay.{refused};
 ghost use Rattle.message.specs.Read.{part};
 ghost use Rattle.machine_next.specs.declared.Sends.the-variants.{Nothing, Data, Looped};
 ghost use Rattle.machine_next.specs.Next.{inState, idle, is, after, heed, react, refusal, next, does};
 ghost use Rattle.machine_next.specs.Inner.{taken, heeded};
 use message::Fields;
-use octets::Written;
+use buffer::Written;
 
 // Its settings: D, the most bytes of a dump reply; its device and processor.
 #[repr(C)]

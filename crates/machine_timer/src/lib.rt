@@ -3,7 +3,7 @@ ghost use mathlib.Core.Path.{_≡_};
 ghost use mathlib.Core.List.{List, []};
 ghost use Prim.Native.Nat.{ℕ, _≤_};
 ghost use lib.ListN.{length};
-ghost use Rattle.octets.specs.Lay.{Came};
+ghost use Rattle.buffer.specs.Lay.{Came};
 ghost use Rattle.message.specs.Message.{requestProgram, requestDumpService};
 ghost use Rattle.message.specs.Write.{sent};
 ghost use Rattle.step.specs.Step.{gives, Leaves};
@@ -12,7 +12,7 @@ ghost use Rattle.machine_timer.specs.Timer.{machineTimer};
 use machine_next::Machine;
 use machine_next::Settings;
 use machine_next::Stepped;
-use octets::Written;
+use buffer::Written;
 
 // Code 8, asked for by Requesting.
 fn ask_load(settings: Settings, reply: &mut [u8]) -> Written

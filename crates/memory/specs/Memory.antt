@@ -4,7 +4,7 @@ use mathlib.Core.Bool.{Bool, cond as pick}
 use mathlib.Core.List.{List, _++_}
 use lib.ListN.{length, take, drop, replicate}
 use lib.Dec.{leb}
-use Rattle.octets.specs.Lay.{over}
+use Rattle.buffer.specs.Lay.{over}
 
 -- a load of n bytes at an address fits a memory of this size
 unfoldable pub fits : ℕ → ℕ → ℕ → Bool

@@ -3,11 +3,11 @@ ghost use mathlib.Core.Path.{_≡_};
 ghost use mathlib.Core.List.{_++_};
 ghost use Prim.Native.Nat.{_+_, _≤_, _<_};
 ghost use lib.ListN.{length, replicate};
-ghost use Rattle.octets.specs.Lay.{laid, Came};
+ghost use Rattle.buffer.specs.Lay.{laid, Came};
 ghost use Rattle.message.specs.Message.{dumpData};
 ghost use Rattle.message.specs.Write.{write};
 ghost use Rattle.memory.specs.Memory.{fits, deposited, bytesFrom};
-use octets::Written;
+use buffer::Written;
 
 // A load of n bytes at an address fits a memory of this size.
 pub fn fitting(address: u32, n: usize, size: usize) -> bool
@@ -31,7 +31,7 @@ pub fn deposit(bytes: &[u8], address: u32, memory: &mut [u8]) -> bool
     if !fitting(address, bytes.len(), memory.len()) {
         return false;
     }
-    octets::put(bytes, memory, address as usize)
+    buffer::put(bytes, memory, address as usize)
 }
 
 // As many zeros as a frame has bytes.
@@ -50,7 +50,7 @@ fn lay_beyond(head: &[u8], address: u32, n: usize, memory: &[u8], out: &mut [u8]
     let zeros = zeros();
     let at = octets::lesser(address as u64, memory.len() as u64) as usize;
     let rest = n - (memory.len() - at);
-    octets::lay_three(head, &memory[at..], &zeros[..rest], out)
+    buffer::lay_three(head, &memory[at..], &zeros[..rest], out)
 }
 
 // A frame of a head and n bytes of memory from an address on.
@@ -68,7 +68,7 @@ fn lay(head: &[u8], address: u32, n: usize, memory: &[u8], out: &mut [u8]) -> Wr
     if memory.len() < end {
         return lay_beyond(head, address, n, memory, out);
     }
-    octets::lay(head, &memory[at..end], out)
+    buffer::lay(head, &memory[at..end], out)
 }
 
 // Code 14, memory dump data: n bytes of memory from an address on, 0 beyond its end.

@@ -15,9 +15,9 @@ use lib.Dec.{eqb, ltb}
 use borrow.Author.Tests.{eq-eqb, ne-eqb, lt-ltb, le-ltb, eqb-true, eqb-false, ltb-false, ltb-true}
 use Rattle.octets.specs.Number.{number, low, Octets}
 use Rattle.octets.specs.NumberLaws.{octets-part, length-low, part-bound, number-low, low-number}
-use Rattle.octets.specs.declared.Written.{Written}
+use Rattle.buffer.specs.declared.Written.{Written}
 use Rattle.octets.specs.TestLaws.{by-cases, both}
-use Rattle.octets.specs.Lay.{Output, written, laid, Came}
+use Rattle.buffer.specs.Lay.{Output, written, laid, Came}
 use Rattle.entries_next.specs.declared.Place.{Place}
 use Rattle.entries_next.specs.declared.Place.the-variants.{Kind, Size, Value, Time, Transfer, Outside, Excess}
 use Rattle.entries.specs.Entries.{walk}

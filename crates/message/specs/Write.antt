@@ -6,7 +6,7 @@ use mathlib.Core.List.{List, [], _∷_, _++_}
 use lib.ListN.{length, drop}
 use lib.Dec.{eqb, ltb}
 use Rattle.octets.specs.Number.{low}
-use Rattle.octets.specs.Lay.{Output, written, refuse, laid}
+use Rattle.buffer.specs.Lay.{Output, written, refuse, laid}
 use Rattle.entries_next.specs.declared.Place.{Place}
 use Rattle.entries_next.specs.declared.Place.the-variants.{Kind, Size, Value, Time, Transfer, Outside, Excess}
 use Rattle.entries.specs.Entries.{walk}

@@ -1,12 +1,12 @@
 // Calls that include/mop.h declares: frames and image files, for a line driver in C.
 ghost use mathlib.Core.Path.{_≡_};
-ghost use Rattle.octets.specs.Lay.{Came};
+ghost use Rattle.buffer.specs.Lay.{Came};
 ghost use Rattle.message.specs.Message.{memoryLoadTransfer, memoryLoad, requestProgram, requestLoad, requestDump, requestDumpService, dumpData, dumpComplete, volunteer, parameters, loopData, loopedData};
 ghost use Rattle.message.specs.Read.{fields};
 ghost use Rattle.message.specs.Write.{write};
 ghost use Rattle.segments.specs.Segments.{checked, found};
 use message::Fields;
-use octets::Written;
+use buffer::Written;
 use segments::Image;
 use segments::Segment;
 

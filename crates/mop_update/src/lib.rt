@@ -2,7 +2,7 @@
 ghost use Rattle.step.specs.Step.{Leaves};
 ghost use Rattle.load.specs.Load.{loadFrame, loadTimer};
 ghost use Rattle.dump.specs.Dump.{dumpFrame, dumpTimer};
-use octets::Written;
+use buffer::Written;
 
 // The host's load: mop_load of the header.
 

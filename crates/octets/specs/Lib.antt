@@ -1,5 +1,3 @@
 pub mod Number
-pub mod Lay
 pub mod NumberLaws
-pub mod LayLaws
 pub mod TestLaws

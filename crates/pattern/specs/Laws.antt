@@ -8,8 +8,8 @@ use lib.ListN.{length, getD, take, drop, drop-of-length-le, length-drop}
 use lib.Seq.{drop-cons, drop-drop}
 use borrow.Author.Tests.{le-ltb, lt-ltb}
 use Rattle.bytes.specs.Bytes.{indexOf, slice}
-use Rattle.octets.specs.declared.Written.{Written}
-use Rattle.octets.specs.Lay.{refused, Came}
+use Rattle.buffer.specs.declared.Written.{Written}
+use Rattle.buffer.specs.Lay.{refused, Came}
 use Rattle.text.specs.Text.{chars, placed}
 use Rattle.text.specs.Laws.{found, adds-there, adds-long}
 use Rattle.text.specs.Inner.{Adds}

@@ -7,7 +7,7 @@ use mathlib.Core.List.{List, [], _∷_, _++_}
 use lib.ListN.{length, getD, take, drop}
 use lib.Dec.{eqb, ltb}
 use Rattle.bytes.specs.Bytes.{indexOf}
-use Rattle.octets.specs.Lay.{Output, refuse}
+use Rattle.buffer.specs.Lay.{Output, refuse}
 use Rattle.text.specs.Text.{chars, placed}
 use Rattle.decimal.specs.Decimal.{decimal}
 use Rattle.hexadecimal.specs.Hexadecimal.{pairs, address}

@@ -2,11 +2,11 @@
 ghost use mathlib.Core.Path.{_≡_};
 ghost use Prim.Native.Nat.{_-_, _≤_, _<_};
 ghost use lib.ListN.{length, getD, drop};
-ghost use Rattle.octets.specs.Lay.{Came};
+ghost use Rattle.buffer.specs.Lay.{Came};
 ghost use Rattle.text.specs.Text.{Added};
 ghost use Rattle.text.specs.Inner.{Adds};
 ghost use Rattle.pattern.specs.Pattern.{behind, skip, row, bytes, isMark, value, piece, after, filled, sentenced};
-use octets::Written;
+use buffer::Written;
 
 // The place behind the row that begins at a place of a table.
 fn next_row(table: &[u8], at: usize) -> usize

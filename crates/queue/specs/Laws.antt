@@ -8,7 +8,7 @@ use native.Mathlib.Numerals.{add-one}
 use lib.ListN.{length, getD, set}
 use lib.Seq.{getD-set-same, getD-set-other}
 use borrow.Author.Tests.{le-leb, lt-leb, eq-eqb, ne-eqb}
-use Rattle.octets.specs.Lay.{put}
+use Rattle.buffer.specs.Lay.{put}
 use Rattle.queue.specs.Queue.{empty, isFull, front, free, join, leave, stored, sent, keeps}
 use Rattle.queue.specs.declared.Queue.{Queue}
 

@@ -4,7 +4,7 @@ use mathlib.Core.Bool.{Bool, cond as pick}
 use mathlib.Core.List.{List, []}
 use lib.ListN.{length, getD, set, take, replicate}
 use lib.Dec.{eqb, leb}
-use Rattle.octets.specs.Lay.{put}
+use Rattle.buffer.specs.Lay.{put}
 use Rattle.queue.specs.declared.Queue.{Queue}
 
 -- no frame waits

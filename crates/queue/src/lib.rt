@@ -98,7 +98,7 @@ pub fn add(queue: Queue, frame: &[u8], places: &mut [[u8; 1500]; 16]) -> Queue
         return queue;
     }
     let at = free(queue);
-    octets::put(frame, &mut places[at], 0);
+    buffer::put(frame, &mut places[at], 0);
     join(queue, frame.len())
 }
 

@@ -1,6 +1,6 @@
 // The events of a rehearsal (PROTOCOL 8, 'Rehearsal').
 ghost use mathlib.Core.Path.{_≡_};
-ghost use Rattle.octets.specs.Lay.{Came};
+ghost use Rattle.buffer.specs.Lay.{Came};
 ghost use Rattle.text.specs.Text.{placed};
 ghost use Rattle.job.specs.Run.{run, Left};
 ghost use Rattle.rehearse.specs.Inner.{machineMoved, hostMoved, machineSends, turn, leaving};

@@ -10,7 +10,7 @@ use lib.Dec.{eqb, ltb}
 use borrow.Author.Tests.{eqb-true, eqb-false, ltb-true, le-leb}
 use Rattle.octets.specs.Number.{Octets}
 use Rattle.octets.specs.TestLaws.{by-cases, both}
-use Rattle.octets.specs.Lay.{Output}
+use Rattle.buffer.specs.Lay.{Output}
 use Rattle.digits.specs.Digits.{nibble}
 use Rattle.hexadecimal.specs.Hexadecimal.{Decoded, notHexadecimal, spelled, isDigit, before, hexadecimal, decoded}
 use Rattle.image.specs.Image.{cutRefusal}

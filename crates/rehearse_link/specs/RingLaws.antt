@@ -10,7 +10,7 @@ use lib.Seq.{getD-set-same, getD-set-other, take-at, take-all}
 use lib.Dec.{eqb, leb}
 use borrow.Author.Tests.{le-leb, lt-leb, ne-eqb, eqb-true, eqb-false, leb-true, leb-false}
 use Rattle.octets.specs.TestLaws.{by-cases}
-use Rattle.octets.specs.Lay.{put}
+use Rattle.buffer.specs.Lay.{put}
 use Rattle.queue.specs.declared.Queue.{Queue}
 use Rattle.queue.specs.Queue.{front, free, leave, first, sent, keeps}
 use Rattle.rehearse_link.specs.Ring.{framesFrom, frames, Ring}

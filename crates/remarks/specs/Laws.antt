@@ -8,8 +8,8 @@ use lib.ListN.{length, take, length-append, length-replicate, replicate-append-r
 use lib.Seq.{take-at, take-append-add, take-append-le, length-take-le}
 use borrow.Rule.Slice.PartMut.{midOf, postOf, putMid, mid-len}
 use borrow.Author.Tests.{eq-eqb, ne-eqb}
-use Rattle.octets.specs.declared.Written.{Written}
-use Rattle.octets.specs.Lay.{Came, written}
+use Rattle.buffer.specs.declared.Written.{Written}
+use Rattle.buffer.specs.Lay.{Came, written}
 use Rattle.text.specs.Text.{placed}
 use Rattle.text.specs.Laws.{placed-there}
 use Rattle.hexadecimal.specs.Hexadecimal.{pairs}

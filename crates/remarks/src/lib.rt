@@ -1,11 +1,11 @@
 // The lines of `make explain`: words beside a rehearsal's transcript. Each function answers refusal 9 for a buffer that is
 // too short.
 ghost use mathlib.Core.Path.{_≡_};
-ghost use Rattle.octets.specs.Lay.{Came};
+ghost use Rattle.buffer.specs.Lay.{Came};
 ghost use Rattle.text.specs.Text.{placed};
 ghost use Rattle.remarks.specs.Remarks.{besideLine, notedLine, silentRow, sentWords, remark, fullBefore, lost, meaning, reason};
 use job::Ends;
-use octets::Written;
+use buffer::Written;
 use words::Words;
 
 // A letter and bytes in hexadecimal, and words beside them, from column 24 on or two places behind the bytes.

@@ -7,9 +7,9 @@ use native.Mathlib.Omega.{arith}
 use lib.ListN.{length}
 use lib.Dec.{eqb}
 use borrow.Author.Tests.{eqb-true, eqb-false, eq-eqb, ne-eqb}
-use Rattle.octets.specs.declared.Written.{Written}
+use Rattle.buffer.specs.declared.Written.{Written}
 use Rattle.octets.specs.TestLaws.{by-cases}
-use Rattle.octets.specs.Lay.{Output, Came, refused}
+use Rattle.buffer.specs.Lay.{Output, Came, refused}
 use Rattle.message.specs.declared.Fields.{Fields}
 use Rattle.message.specs.Message.{Message}
 use Rattle.message.specs.Read.{fields}

@@ -5,8 +5,8 @@ use mathlib.Core.Path.{_≡_}
 use mathlib.Core.Bool.{Bool, cond as pick}
 use mathlib.Core.List.{List, [], _∷_}
 use lib.Dec.{eqb}
-use Rattle.octets.specs.declared.Written.{Written}
-use Rattle.octets.specs.Lay.{written, refused}
+use Rattle.buffer.specs.declared.Written.{Written}
+use Rattle.buffer.specs.Lay.{written, refused}
 use Rattle.message.specs.declared.Fields.{Fields}
 use Rattle.message.specs.Message.{Message}
 use Rattle.message.specs.Read.{fields}

@@ -3,7 +3,7 @@ use Prim.Native.Nat.{ℕ, _+_, _≤_}
 use mathlib.Core.Path.{_≡_}
 use mathlib.Core.List.{List}
 use lib.ListN.{length}
-use Rattle.octets.specs.Lay.{over}
+use Rattle.buffer.specs.Lay.{over}
 use Rattle.text.specs.Text.{behind}
 
 -- where the whole fits, it stands there at the end; the place behind it is right in any case

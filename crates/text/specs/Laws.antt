@@ -9,8 +9,8 @@ use lib.ListN.{length, take, drop, length-append, length-take, length-drop, take
 use lib.Seq.{take-at, drop-at, drop-drop, take-all, take-length, take-nil}
 use borrow.Author.Tests.{lt-ltb, le-ltb, lt-leb, le-leb, leb-true, leb-false}
 use Rattle.bytes.specs.Bytes.{indexOf, slice}
-use Rattle.octets.specs.declared.Written.{Written}
-use Rattle.octets.specs.Lay.{refuse, written, fits, over, put, Came}
+use Rattle.buffer.specs.declared.Written.{Written}
+use Rattle.buffer.specs.Lay.{refuse, written, fits, over, put, Came}
 use Rattle.octets.specs.TestLaws.{by-cases}
 use Rattle.text.specs.Text.{placed, Added}
 use Rattle.text.specs.Inner.{Adds}

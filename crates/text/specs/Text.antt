@@ -8,7 +8,7 @@ use mathlib.Core.Path.{_≡_}
 use mathlib.Core.List.{List, [], _∷_, _++_}
 use lib.ListN.{length, drop}
 use lib.Dec.{ltb}
-use Rattle.octets.specs.Lay.{Output, refuse, written, put}
+use Rattle.buffer.specs.Lay.{Output, refuse, written, put}
 
 abbrev pub chars : String → List ℕ
 chars Quoted.[] = []

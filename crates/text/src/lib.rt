@@ -1,9 +1,9 @@
 // Texts in lent buffers: a part of one, one laid whole, and one added behind what stands there.
 ghost use mathlib.Core.Path.{_≡_};
 ghost use lib.ListN.{take, drop};
-ghost use Rattle.octets.specs.Lay.{Came};
+ghost use Rattle.buffer.specs.Lay.{Came};
 ghost use Rattle.text.specs.Text.{placed, Added};
-use octets::Written;
+use buffer::Written;
 
 // A part of some bytes, cut at their end.
 pub fn part(s: &[u8], from: usize, length: usize) -> &[u8]
@@ -22,7 +22,7 @@ pub fn part(s: &[u8], from: usize, length: usize) -> &[u8]
 pub fn place(src: &[u8], out: &mut [u8]) -> Written
     ensures { λ r. ⌜ Came (placed (now (src .entry)) (now (out .entry))) r (now (out .exit)) ⌝ }
 {
-    if octets::put(src, out, 0) {
+    if buffer::put(src, out, 0) {
         return Written {
             length: src.len(),
             refusal: 0,
@@ -39,7 +39,7 @@ pub fn place(src: &[u8], out: &mut [u8]) -> Written
 pub fn add(src: &[u8], out: &mut [u8], at: usize) -> usize
     ensures { λ r. ⌜ Added (now (src .entry)) at (now (out .entry)) r (now (out .exit)) ⌝ }
 {
-    if octets::put(src, out, at) {
+    if buffer::put(src, out, at) {
         return at + src.len();
     }
     out.len() + 1

@@ -7,8 +7,8 @@ use native.Mathlib.Omega.{arith}
 use lib.ListN.{length, take, replicate, length-append, length-replicate}
 use lib.Dec.{eqb}
 use borrow.Author.Tests.{eq-eqb, ne-eqb}
-use Rattle.octets.specs.declared.Written.{Written}
-use Rattle.octets.specs.Lay.{Came, written}
+use Rattle.buffer.specs.declared.Written.{Written}
+use Rattle.buffer.specs.Lay.{Came, written}
 use Rattle.octets.specs.TestLaws.{by-cases}
 use Rattle.text.specs.Text.{chars, placed, Added}
 use Rattle.text.specs.Laws.{adds, adds-append, adds-there, placed-whole}

@@ -3,13 +3,13 @@
 ghost use mathlib.Core.Path.{_≡_};
 ghost use mathlib.Core.Bool.{cond};
 ghost use mathlib.Core.List.{_++_};
-ghost use Rattle.octets.specs.Lay.{Came};
+ghost use Rattle.buffer.specs.Lay.{Came};
 ghost use Rattle.text.specs.Text.{chars, placed, Added};
 ghost use Rattle.text.specs.Inner.{Adds};
 ghost use Rattle.decimal.specs.Decimal.{decimal};
 ghost use Rattle.hexadecimal.specs.Hexadecimal.{address};
 ghost use Rattle.transcript.specs.Transcript.{initial, sentLine, report, lastLine, badLine};
-use octets::Written;
+use buffer::Written;
 
 // H for the host, T for the machine.
 pub fn initial(host: bool) -> u8

@@ -7,8 +7,8 @@ use native.Mathlib.Omega.{arith}
 use lib.ListN.{length, length-append}
 use borrow.Author.Tests.{le-ltb}
 use Rattle.bytes.specs.Bytes.{indexOf}
-use Rattle.octets.specs.declared.Written.{Written}
-use Rattle.octets.specs.Lay.{Came}
+use Rattle.buffer.specs.declared.Written.{Written}
+use Rattle.buffer.specs.Lay.{Came}
 use Rattle.text.specs.Text.{chars, placed}
 use Rattle.hexadecimal.specs.Hexadecimal.{pairs}
 use Rattle.pattern.specs.Pattern.{filling, sentenced}

@@ -1,11 +1,11 @@
 // The words beside a rehearsal's transcript: which phrase, with which numbers, and the phrase as a line.
 ghost use mathlib.Core.Path.{_≡_};
 ghost use mathlib.Core.Bool.{cond};
-ghost use Rattle.octets.specs.Lay.{Came};
+ghost use Rattle.buffer.specs.Lay.{Came};
 ghost use Rattle.text.specs.Text.{placed};
 ghost use Rattle.words.specs.Words.{phrase, frameRow, frameWords, lineRow, machineRow, hostRow, refusalRow, reportRow, further, reportWords, spoken};
 use message::Fields;
-use octets::Written;
+use buffer::Written;
 
 // A frame for which there is no place.
 pub const FULL: usize = 13;

@@ -3,10 +3,10 @@
 ghost use mathlib.Core.Path.{_≡_};
 ghost use mathlib.Core.List.{[], _∷_, _++_};
 ghost use Rattle.octets.specs.Number.{low};
-ghost use Rattle.octets.specs.Lay.{Came, laid};
+ghost use Rattle.buffer.specs.Lay.{Came, laid};
 ghost use Rattle.message.specs.Message.{memoryLoadTransfer, memoryLoad, requestLoad, requestDump, requestDumpService, dumpData, dumpComplete, volunteer, loopData, loopedData};
 ghost use Rattle.message.specs.Write.{write};
-use octets::Written;
+use buffer::Written;
 
 // The head of codes 4 and 14: the code and an address.
 fn addressed(code: u8, address: u32) -> [u8; 5]
@@ -30,7 +30,7 @@ fn alone(code: u8, out: &mut [u8]) -> Written
 {
     let head = [code];
     let none = [0u8; 0];
-    octets::lay(&head, &none, out)
+    buffer::lay(&head, &none, out)
 }
 
 // Codes 24 and 26.
@@ -39,7 +39,7 @@ fn looping(code: u8, receipt: u16, bytes: &[u8], out: &mut [u8]) -> Written
 {
     let n = octets::low16(receipt);
     let head = [code, n[0], n[1]];
-    octets::lay(&head, bytes, out)
+    buffer::lay(&head, bytes, out)
 }
 
 // Code 0, memory load with transfer.
@@ -54,7 +54,7 @@ pub fn memory_load_transfer(
 {
     let head = numbered(0, number, address);
     let tail = octets::low32(transfer);
-    octets::lay_three(&head, bytes, &tail, out)
+    buffer::lay_three(&head, bytes, &tail, out)
 }
 
 // Code 2, memory load.
@@ -62,7 +62,7 @@ pub fn memory_load(number: u8, address: u32, bytes: &[u8], out: &mut [u8]) -> Wr
     ensures { λ r. ⌜ Came (write (memoryLoad number address (now (bytes .entry))) (now (out .entry))) r (now (out .exit)) ⌝ }
 {
     let head = numbered(2, number, address);
-    octets::lay(&head, bytes, out)
+    buffer::lay(&head, bytes, out)
 }
 
 // Code 10, request memory load.
@@ -71,7 +71,7 @@ pub fn request_load(number: u8, error: u8, out: &mut [u8]) -> Written
 {
     let head = [10];
     let body = [number, error];
-    octets::lay(&head, &body, out)
+    buffer::lay(&head, &body, out)
 }
 
 // Code 4, request memory dump.
@@ -80,7 +80,7 @@ pub fn request_dump(address: u32, count: u16, out: &mut [u8]) -> Written
 {
     let head = addressed(4, address);
     let body = octets::low16(count);
-    octets::lay(&head, &body, out)
+    buffer::lay(&head, &body, out)
 }
 
 // Code 12, request dump service.
@@ -96,7 +96,7 @@ pub fn request_dump_service(
 {
     let n = octets::low32(size);
     let head = [12, device, format, n[0], n[1], n[2], n[3], compatibility];
-    octets::lay(&head, info, out)
+    buffer::lay(&head, info, out)
 }
 
 // Code 14, memory dump data.
@@ -104,7 +104,7 @@ pub fn dump_data(address: u32, bytes: &[u8], out: &mut [u8]) -> Written
     ensures { λ r. ⌜ Came (write (dumpData address (now (bytes .entry))) (now (out .entry))) r (now (out .exit)) ⌝ }
 {
     let head = addressed(14, address);
-    octets::lay(&head, bytes, out)
+    buffer::lay(&head, bytes, out)
 }
 
 // Code 1, dump complete.

@@ -1,10 +1,10 @@
 // Writing the two frames whose fields must be listed, codes 8 and 20 (PROTOCOL 2, 'Messages'): 4, then 2, then 9, as the other writers.
 ghost use mathlib.Core.Path.{_≡_};
-ghost use Rattle.octets.specs.Lay.{Came};
+ghost use Rattle.buffer.specs.Lay.{Came};
 ghost use Rattle.message.specs.Message.{requestProgram, parameters};
 ghost use Rattle.message.specs.Write.{write, idFits, whole};
 use entries_next::Place;
-use octets::Written;
+use buffer::Written;
 
 // Code 8, request program. The id has exactly the length that the form says.
 pub fn request_program(
@@ -33,7 +33,7 @@ pub fn request_program(
     }
     let head = [8, device, format, program, form];
     let behind = [processor];
-    octets::lay_four(&head, id, &behind, info, out)
+    buffer::lay_four(&head, id, &behind, info, out)
 }
 
 // The form is listed, and says this length of an id.
@@ -62,7 +62,7 @@ pub fn parameters(number: u8, entries: &[u8], transfer: u32, out: &mut [u8]) -> 
     let t = octets::low32(transfer);
     let head = [20, number];
     let tail = [0, t[0], t[1], t[2], t[3]];
-    octets::lay_three(&head, entries, &tail, out)
+    buffer::lay_three(&head, entries, &tail, out)
 }
 
 // Entries may end at this place.

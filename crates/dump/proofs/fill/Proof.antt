@@ -3,7 +3,7 @@ use Prim.Native.Nat.{_+_, _≤_}
 use lib.ListN.{length}
 use native.Mathlib.Omega.{arith}
 use borrow.Author.Tests.{not-true, not-false}
-use Rattle.octets.specs.LayLaws.{copied}
+use Rattle.buffer.specs.LayLaws.{copied}
 use Rattle.dump.proofs.fill.Statement.{statement}
 use Rattle.dump.proofs.fill.Tie as tie
 

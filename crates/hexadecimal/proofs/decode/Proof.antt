@@ -1,6 +1,6 @@
 use mathlib.Core.Path.{sym, ap, _∙_}
 use borrow.Author.Tests.{not-true, not-false}
-use Rattle.octets.specs.Lay.{written}
+use Rattle.buffer.specs.Lay.{written}
 use Rattle.hexadecimal.specs.declared.Line.{Line}
 use Rattle.hexadecimal.specs.Hexadecimal.{hexadecimal}
 use Rattle.hexadecimal.specs.RunLaws.{decoded-not, decoded-short, decoded-whole}

@@ -4,8 +4,8 @@ use mathlib.Core.Path.{_≡_, refl, ap}
 use mathlib.Core.Bool.{true, false}
 use mathlib.Core.List.{List}
 use borrow.Author.Needs.{needs}
-use Rattle.octets.specs.declared.Written.{Written}
-use Rattle.octets.specs.Lay.{Came, written}
+use Rattle.buffer.specs.declared.Written.{Written}
+use Rattle.buffer.specs.Lay.{Came, written}
 use Rattle.message.specs.Write.{sent}
 use Rattle.step.specs.Step.{gives, Leaves}
 use Rattle.load_next.specs.declared.Session.{Session}

@@ -7,8 +7,8 @@ use native.Mathlib.Omega.{arith}
 use lib.ListN.{length, take, drop}
 use borrow.Author.Needs.{needs}
 use borrow.Author.Tests.{eq-eqb, ne-eqb}
-use Rattle.octets.specs.declared.Written.{Written}
-use Rattle.octets.specs.Lay.{Came}
+use Rattle.buffer.specs.declared.Written.{Written}
+use Rattle.buffer.specs.Lay.{Came}
 use Rattle.message.specs.Message.{Message, memoryLoadTransfer, memoryLoad}
 use Rattle.message.specs.Write.{write, sent}
 use Rattle.image.specs.PartsLaws.{length-bytes}

@@ -3,8 +3,8 @@ use Prim.Native.Nat.{ℕ}
 use mathlib.Core.Path.{_≡_, sym, _∙_}
 use mathlib.Core.List.{List}
 use borrow.Author.Needs.{needs}
-use Rattle.octets.specs.declared.Written.{Written}
-use Rattle.octets.specs.Lay.{refused}
+use Rattle.buffer.specs.declared.Written.{Written}
+use Rattle.buffer.specs.Lay.{refused}
 use Rattle.step.specs.Step.{gives, Leaves}
 use Rattle.step.specs.Laws.{call-refused, call-accepted}
 use Rattle.load_next.specs.declared.Settings.{Settings}

@@ -2,7 +2,7 @@ use mathlib.Core.List.{_++_}
 use native.Mathlib.Nat.{add-sub-cancel-left}
 use native.Mathlib.Omega.{arith}
 use lib.ListN.{length-append}
-use Rattle.octets.specs.LayLaws.{laid-over}
+use Rattle.buffer.specs.LayLaws.{laid-over}
 use Rattle.memory.specs.Memory.{bytesFrom}
 use Rattle.memory.specs.Laws.{length-bytesFrom, bytesFrom-inside}
 use borrow.Author.Needs.{needs}

@@ -7,7 +7,7 @@ use lib.ListN.{length, take, drop, length-append, length-drop, drop-of-length-le
 use lib.Seq.{take-all, take-length, drop-drop, take-append-seam, drop-append-add}
 use native.Mathlib.Omega.{arith}
 use borrow.Author.Tests.{lt-ltb, le-ltb, lt-leb, le-leb}
-use Rattle.octets.specs.Lay.{fits, over, put, written, refused, laid, Came}
+use Rattle.buffer.specs.Lay.{fits, over, put, written, refused, laid, Came}
 
 -- the three ways through `laid`
 pub laid-over : (frame out : List ℕ) → 1500 < length frame → Came (laid frame out) (refused 2) out

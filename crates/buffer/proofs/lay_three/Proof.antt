@@ -1,7 +1,7 @@
 use borrow.Author.Needs.{needs}
 use mathlib.Core.List.{append-nil}
-use Rattle.octets.proofs.lay_three.Statement.{statement}
-use Rattle.octets.proofs.lay_three.Tie as tie
+use Rattle.buffer.proofs.lay_three.Statement.{statement}
+use Rattle.buffer.proofs.lay_three.Tie as tie
 
 slice-aggregate-lay-four : tie.Need-slice-aggregate-lay-four
 slice-aggregate-lay-four c = search needs

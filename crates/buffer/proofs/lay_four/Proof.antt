@@ -1,9 +1,9 @@
 use borrow.Author.Needs.{needs}
 use mathlib.Core.List.{_++_}
 use native.Mathlib.Omega.{arith}
-use Rattle.octets.specs.LayLaws.{length-joined, laid-over, laid-short, laid-four}
-use Rattle.octets.proofs.lay_four.Statement.{statement}
-use Rattle.octets.proofs.lay_four.Tie as tie
+use Rattle.buffer.specs.LayLaws.{length-joined, laid-over, laid-short, laid-four}
+use Rattle.buffer.proofs.lay_four.Statement.{statement}
+use Rattle.buffer.proofs.lay_four.Tie as tie
 
 add-b : tie.Need-add-b
 add-b c = search needs

@@ -1,7 +1,7 @@
 use borrow.Author.Needs.{needs}
 use mathlib.Core.List.{append-nil}
-use Rattle.octets.proofs.lay.Statement.{statement}
-use Rattle.octets.proofs.lay.Tie as tie
+use Rattle.buffer.proofs.lay.Statement.{statement}
+use Rattle.buffer.proofs.lay.Tie as tie
 
 slice-aggregate-lay-three : tie.Need-slice-aggregate-lay-three
 slice-aggregate-lay-three c = search needs

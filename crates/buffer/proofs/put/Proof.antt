@@ -1,9 +1,9 @@
 use borrow.Author.Needs.{needs}
 use mathlib.Core.Path.{_∙_}
 use native.Mathlib.Omega.{arith}
-use Rattle.octets.specs.LayLaws.{put-refused, put-whole, copied}
-use Rattle.octets.proofs.put.Statement.{statement}
-use Rattle.octets.proofs.put.Tie as tie
+use Rattle.buffer.specs.LayLaws.{put-refused, put-whole, copied}
+use Rattle.buffer.proofs.put.Statement.{statement}
+use Rattle.buffer.proofs.put.Tie as tie
 
 returns : tie.Need-returns
 returns c =
