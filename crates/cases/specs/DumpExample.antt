@@ -12,7 +12,7 @@ use Rattle.step.specs.Step.{first}
 use Rattle.machine_next.specs.declared.Settings.{Settings as MachineSettings}
 use Rattle.machine_next.specs.Next as machine
 use Rattle.dump_next.specs.declared.Settings.{Settings as DumpSettings}
-use Rattle.dump_record.specs.Record as dumpRecord
+use Rattle.dump_checks.specs.Checks as dumpChecks
 use Rattle.link.specs.Link.{Event, own, handToMachine, handToHost, hostTimer, run}
 use Rattle.link_dump.specs.Model.{after}
 
@@ -23,7 +23,7 @@ s = record { length = 3; address = 1; «request_bytes» = 2; repeats = 1 }
 abbrev pub ms : MachineSettings
 ms = record { «reply_bytes» = 1495; device = 0; processor = 0 }
 
-accepted : (dumpRecord.settled s 3 ≡ true) × (machine.refusal ms machine.offering 3 1500 ≡ 0)
+accepted : (dumpChecks.settled s 3 ≡ true) × (machine.refusal ms machine.offering 3 1500 ≡ 0)
 unfolding first
 accepted = (refl, refl)
 

@@ -11,7 +11,7 @@ use Rattle.dump_next.specs.declared.Settings.{Settings}
 use Rattle.dump_next.specs.declared.Session.{Session}
 use Rattle.dump_next.specs.declared.Next.{Next}
 use Rattle.dump_next.specs.Next.{react, onTimer, sending}
-use Rattle.dump_record.specs.Record.{refusal, replies, frames}
+use Rattle.dump_checks.specs.Checks.{refusal, replies, frames}
 
 -- ---- what is counted, and what stands in the dump buffer
 -- this record with its counts raised

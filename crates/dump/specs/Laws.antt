@@ -21,8 +21,8 @@ use Rattle.dump_next.specs.declared.Session.{Session}
 use Rattle.dump_next.specs.declared.Sends.the-variants.{Nothing, Request, Complete}
 use Rattle.dump_next.specs.declared.Next.{Next}
 use Rattle.dump_next.specs.Next.{place, asked, reached, takes, react, onTimer}
-use Rattle.dump_record.specs.Record.{refusal}
-use Rattle.dump_record.specs.Laws.{bound, Accepted}
+use Rattle.dump_checks.specs.Checks.{refusal}
+use Rattle.dump_checks.specs.Laws.{bound, Accepted}
 use Rattle.dump.specs.Dump.{counted, filled, does, onFrame, dumpFrame}
 use Rattle.dump.specs.Inner.{Missing, Room, Ready}
 

@@ -47,8 +47,8 @@ fn counted(n: Next) -> Session
 {
     let mut h = n.session;
     let sends = n.sends;
-    h.replies = h.replies + dump_record::replies(n.takes);
-    h.sent = h.sent + dump_record::frames(sends);
+    h.replies = h.replies + dump_checks::replies(n.takes);
+    h.sent = h.sent + dump_checks::frames(sends);
     h
 }
 
@@ -111,7 +111,7 @@ pub fn frame(
 ) -> Stepped
     ensures { λ r. ⌜ Leaves (dumpFrame settings session (now (frame .entry)) (now (buffer .entry)) (now (reply .entry))) (r .session) (r .answer) (now (buffer .exit)) (now (reply .exit)) ⌝ }
 {
-    let refusal = dump_record::refusal(settings, session, buffer.len(), reply.len());
+    let refusal = dump_checks::refusal(settings, session, buffer.len(), reply.len());
     if refusal != 0 {
         return refused(session, refusal);
     }
@@ -130,7 +130,7 @@ pub fn frame(
 pub fn timer(settings: Settings, session: Session, buffer: &[u8], reply: &mut [u8]) -> Stepped
     ensures { λ r. ⌜ Leaves (dumpTimer settings session (now (buffer .entry)) (now (reply .entry))) (r .session) (r .answer) (now (buffer .entry)) (now (reply .exit)) ⌝ }
 {
-    let refusal = dump_record::refusal(settings, session, buffer.len(), reply.len());
+    let refusal = dump_checks::refusal(settings, session, buffer.len(), reply.len());
     if refusal != 0 {
         return refused(session, refusal);
     }

@@ -10,7 +10,7 @@ use borrow.Author.Tests.{eq-eqb, ne-eqb, le-leb, eqb-true, eqb-false}
 use Rattle.octets.specs.TestLaws.{by-cases}
 use Rattle.dump_next.specs.declared.Settings.{Settings}
 use Rattle.dump_next.specs.Next as next
-use Rattle.dump_record.specs.Record as dumpRecord
+use Rattle.dump_checks.specs.Checks as dumpChecks
 use Rattle.link.specs.Link.{Frame, Turn, Ends}
 use Rattle.link.specs.LinkLaws.{Closed}
 use Rattle.link.specs.AloneLaws.{Keeps, Alone, alone}
@@ -80,11 +80,11 @@ module _ (s : Settings) (some : 1 ≤ s .length) where
             omega (arith, g .repeats)
 
     -- it is none of those that are bad
-    pub never-bad : dumpRecord.sound s (h .session) ≡ true
+    pub never-bad : dumpChecks.sound s (h .session) ≡ true
     never-bad =
         rw (le-leb (h .session .verdict) 3 (g .verdict), le-leb (h .session .repeats) (s .repeats) (g .repeats), le-leb (h .session .filled) (s .length) (g .filled), le-leb (h .session .replies) (h .session .filled) (g .replies), le-leb (h .session .sent) _ bound, le-leb (h .session .waiting) 1 (g .flag), blank, full)
       where
-        blank : pick (eqb (h .session .waiting) 1) (dumpRecord.blank (h .session)) true ≡ true
+        blank : pick (eqb (h .session .waiting) 1) (dumpChecks.blank (h .session)) true ≡ true
         blank =
             by-cases (λ (b : Bool). b ≡ true) (eqb (h .session .waiting) 1)
             (λ w. let z = g .waiting (eqb-true _ _ w) in rw (eq-eqb _ _ (z .0), eq-eqb _ _ (z .1), eq-eqb _ _ (z .2), eq-eqb _ _ (z .3), eq-eqb _ _ (z .4))) (λ _. refl)

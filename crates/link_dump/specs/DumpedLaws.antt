@@ -14,7 +14,7 @@ use Rattle.machine_next.specs.declared.Settings.{Settings as MachineSettings}
 use Rattle.machine_next.specs.Next as machine
 use Rattle.dump_next.specs.declared.Settings.{Settings as DumpSettings}
 use Rattle.dump_next.specs.Next as next
-use Rattle.dump_record.specs.Record as dumpRecord
+use Rattle.dump_checks.specs.Checks as dumpChecks
 use Rattle.dump.specs.Dump as dump
 use Rattle.link.specs.Link.{World, Event}
 use Rattle.link.specs.LinkLaws.{Closed, always}
@@ -68,7 +68,7 @@ module _ (s : DumpSettings) (memory buffer : List ℕ) (w : World Host End) (d :
       ∙ filled-whole memory (s .address) (s .length) buffer (omega (arith, size))
 
 module _
-    (s : DumpSettings) (ms : MachineSettings) (memory buffer : List ℕ) (settled : dumpRecord.settled s (length buffer) ≡ true)
+    (s : DumpSettings) (ms : MachineSettings) (memory buffer : List ℕ) (settled : dumpChecks.settled s (length buffer) ≡ true)
     (ready : machine.refusal ms machine.offering (length memory) 1500 ≡ 0) where
   abbrev g : Given s ms memory buffer
   g = given s ms memory buffer settled ready
@@ -123,7 +123,7 @@ module _
         full v f u e = elim (ℕ-discrete v 1) [ yes p ↦ p | no p ↦ absurd (omega (arith, u p)) ]
 
     -- ---- refusals
-    host-accepted : (reply : List ℕ) → 1500 ≤ length reply → dumpRecord.refusal s (w .host .session) (length (w .host .buffer)) (length reply) ≡ 0
+    host-accepted : (reply : List ℕ) → 1500 ≤ length reply → dumpChecks.refusal s (w .host .session) (length (w .host .buffer)) (length reply) ≡ 0
     unfolding first
     host-accepted reply h = rw (claimed .size, settled, claimed .sound, le-leb 1500 (length reply) h)
 

@@ -19,7 +19,7 @@ use Rattle.dump_next.specs.declared.Session.{Session}
 use Rattle.dump_next.specs.declared.Settings.{Settings}
 use Rattle.dump_next.specs.declared.Next.{Next}
 use Rattle.dump_next.specs.Next as next
-use Rattle.dump_record.specs.Record as dumpRecord
+use Rattle.dump_checks.specs.Checks as dumpChecks
 use Rattle.dump.specs.Dump as dump
 use Rattle.link.specs.Link.{Frame, Turn, refuses, acts, queued}
 use Rattle.link.specs.CallLaws.{called, came}
@@ -138,7 +138,7 @@ module _ (s : Settings) (h : Host) where
     pub heard : (b : List ℕ) → Heard s h f (hostTurned (dump.dumpFrame s r f (h .buffer) b))
     heard b =
         came (Heard s h f) _ _ _
-        (called hostEnd (first (dumpRecord.refusal s r (length (h .buffer)) (length b) ∷ fields f .refusal ∷ [])) r (h .buffer) b (dump.onFrame s r f (h .buffer) (fields f)))
+        (called hostEnd (first (dumpChecks.refusal s r (length (h .buffer)) (length b) ∷ fields f .refusal ∷ [])) r (h .buffer) b (dump.onFrame s r f (h .buffer) (fields f)))
         refused on-fields
 
   abbrev OnTimer : Next → Type 0
@@ -157,5 +157,5 @@ module _ (s : Settings) (h : Host) where
 
   pub timed : (b : List ℕ) → Timed s h (hostTurned (dump.dumpTimer s r (h .buffer) b))
   timed b =
-      came (Timed s h) _ _ _ (called hostEnd (dumpRecord.refusal s r (length (h .buffer)) (length b)) r (h .buffer) b (dump.does s (next.onTimer s r) (h .buffer)))
+      came (Timed s h) _ _ _ (called hostEnd (dumpChecks.refusal s r (length (h .buffer)) (length b)) r (h .buffer) b (dump.does s (next.onTimer s r) (h .buffer)))
       refused on-timer

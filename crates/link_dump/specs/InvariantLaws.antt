@@ -22,7 +22,7 @@ use Rattle.machine_next.specs.declared.Settings.{Settings as MachineSettings}
 use Rattle.machine_next.specs.Next as machine
 use Rattle.machine_next.specs.Laws.{in-range}
 use Rattle.dump_next.specs.declared.Settings.{Settings as DumpSettings}
-use Rattle.dump_record.specs.Record as dumpRecord
+use Rattle.dump_checks.specs.Checks as dumpChecks
 use Rattle.link.specs.Link.{Frame, Turn, acts, queued, World}
 use Rattle.link.specs.LinkLaws.{Closed}
 use Rattle.link.specs.EachLaws as each
@@ -97,7 +97,7 @@ pub record Given (s : DumpSettings) (ms : MachineSettings) (memory buffer : List
   pub small : length memory < 256 ^ 4
 
 pub given : (s : DumpSettings) (ms : MachineSettings) (memory buffer : List ℕ)
-    → dumpRecord.settled s (length buffer) ≡ true → machine.refusal ms machine.offering (length memory) 1500 ≡ 0 → Given s ms memory buffer
+    → dumpChecks.settled s (length buffer) ≡ true → machine.refusal ms machine.offering (length memory) 1500 ≡ 0 → Given s ms memory buffer
 given s ms memory buffer e r =
     let host = simp and-eq-true-iff at e in
     let end = in-range ms machine.offering (length memory) 1500 r in

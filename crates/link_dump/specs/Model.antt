@@ -12,7 +12,7 @@ use Rattle.machine_next.specs.Next.{offering}
 use Rattle.dump_next.specs.declared.Session.{Session}
 use Rattle.dump_next.specs.declared.Settings.{Settings as DumpSettings}
 use Rattle.dump_next.specs.Next.{fresh}
-use Rattle.dump_record.specs.Record as dumpRecord
+use Rattle.dump_checks.specs.Checks as dumpChecks
 use Rattle.dump.specs.Dump as dump
 use Rattle.link.specs.Link.{Turn, turned, Ends, World, Event, run}
 use Rattle.link.specs.MachineEnd.{End, endsWith, freshWith}
@@ -65,4 +65,4 @@ pub record Dumped (s : DumpSettings) (memory buffer : List ℕ) (w : World Host 
   pub counted : w .host .session .sent ≡ w .taken
   pub bounded : w .host .session .sent ≤ (w .host .session .replies + 1) * (s .repeats + 1) + 1
   -- the record is none of those that are bad
-  pub sound : dumpRecord.sound s (w .host .session) ≡ true
+  pub sound : dumpChecks.sound s (w .host .session) ≡ true

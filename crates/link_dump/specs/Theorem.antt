@@ -23,7 +23,7 @@ use Rattle.machine_timer.specs.Timer.{machineTimer}
 use Rattle.dump_next.specs.declared.Session.{Session}
 use Rattle.dump_next.specs.declared.Settings.{Settings as DumpSettings}
 use Rattle.dump_next.specs.Next as next
-use Rattle.dump_record.specs.Record as dumpRecord
+use Rattle.dump_checks.specs.Checks as dumpChecks
 use Rattle.link.specs.Link.{acts, turn, Event}
 use Rattle.link.specs.Bounded.{runWithin}
 use Rattle.link.specs.Theorem.{bounded}
@@ -44,7 +44,7 @@ started-dump ms m memory buffer reply reply′ answer r l = (refl, starts ms mac
 
 -- Accepted settings, any memory and dump buffer of accepted lengths, any list of events: the parameters of all that follows.
 module _
-    (s : DumpSettings) (ms : MachineSettings) (memory buffer : List ℕ) (settled : dumpRecord.settled s (length buffer) ≡ true)
+    (s : DumpSettings) (ms : MachineSettings) (memory buffer : List ℕ) (settled : dumpChecks.settled s (length buffer) ≡ true)
     (ready : machine.refusal ms machine.offering (length memory) 1500 ≡ 0) (es : List (Event ⊥)) where
   -- The theorem.
   pub dumped : Dumped s memory buffer (after s ms memory buffer es)
@@ -95,7 +95,7 @@ module _
   counted = (dumped .counted, dumped .bounded)
 
   -- No reached record is one of those that a call refuses as bad.
-  pub never-bad : dumpRecord.sound s session ≡ true
+  pub never-bad : dumpChecks.sound s session ≡ true
   never-bad = dumped .sound
 
   -- No call of either end with a reply buffer of at least 1,500 bytes is refused, whatever the events before and their buffers: on a timer, or on the

@@ -32,7 +32,7 @@ use Rattle.dump_next.specs.declared.Settings.{Settings as DumpSettings}
 use Rattle.dump_next.specs.declared.Session.{Session as DumpSession}
 use Rattle.dump_next.specs.declared.Next.{Next as DumpNext}
 use Rattle.dump_next.specs.Next as dump
-use Rattle.dump_record.specs.Record as dumpRecord
+use Rattle.dump_checks.specs.Checks as dumpChecks
 use Rattle.dump.specs.Dump as dumps
 use Rattle.dump.specs.Dump.{dumpFrame, dumpTimer}
 use Rattle.looptest_next.specs.declared.Settings.{Settings as LoopSettings}
@@ -141,12 +141,12 @@ module _ (s : DumpSettings) (h : DumpSession) (buffer reply : List ℕ) where
   pub dump-frame-seen : (frame : List ℕ) → Seen dumpVerdict h buffer reply (dumpFrame s h frame buffer reply)
   dump-frame-seen frame =
       let f = fields frame in
-      called dumpVerdict h buffer reply (first (dumpRecord.refusal s h (length buffer) (length reply) ∷ f .refusal ∷ []))
+      called dumpVerdict h buffer reply (first (dumpChecks.refusal s h (length buffer) (length reply) ∷ f .refusal ∷ []))
       (dumps.onFrame s h frame buffer f) (reacts (part frame f) f)
 
   pub dump-timer-seen : Seen dumpVerdict h buffer reply (dumpTimer s h buffer reply)
   dump-timer-seen =
-      called dumpVerdict h buffer reply (dumpRecord.refusal s h (length buffer) (length reply)) (dumps.does s (dump.onTimer s h) buffer)
+      called dumpVerdict h buffer reply (dumpChecks.refusal s h (length buffer) (length reply)) (dumps.does s (dump.onTimer s h) buffer)
       (by-cases (D buffer) (eqb (h .verdict) 0) (λ _.
       by-cases (D buffer) (eqb (h .waiting) 0) (λ _.
       by-cases (D buffer) (ltb (h .repeats) (s .repeats)) (λ _. asks buffer (dump.repeated h) false) (λ _. completes buffer h 3 false)) (λ _. kept []))

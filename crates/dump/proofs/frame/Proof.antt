@@ -6,7 +6,7 @@ use native.Mathlib.Omega.{arith}
 use Rattle.message.specs.Laws.{fields-inside}
 use Rattle.step.specs.Laws.{frame-call-refused, frame-refused}
 use Rattle.dump.specs.Dump.{onFrame}
-use Rattle.dump_record.specs.Laws.{Accepted, accepted}
+use Rattle.dump_checks.specs.Laws.{Accepted, accepted}
 use Rattle.dump.specs.Laws.{ready-frame, stepped}
 use Rattle.dump.proofs.frame.Statement.{statement}
 use Rattle.dump.proofs.frame.Tie as tie

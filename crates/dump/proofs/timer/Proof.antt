@@ -3,7 +3,7 @@ use lib.ListN.{length}
 use Rattle.step.specs.Laws.{call-refused, call-accepted}
 use Rattle.dump_next.specs.Next.{onTimer}
 use Rattle.dump.specs.Dump.{does}
-use Rattle.dump_record.specs.Laws.{accepted}
+use Rattle.dump_checks.specs.Laws.{accepted}
 use Rattle.dump.specs.Laws.{ready-timer}
 use Rattle.dump.proofs.timer.Statement.{statement}
 use Rattle.dump.proofs.timer.Tie as tie

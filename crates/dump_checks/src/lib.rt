@@ -4,7 +4,7 @@ ghost use mathlib.Core.Path.{_≡_};
 ghost use mathlib.Core.Bool.{true, not, cond};
 ghost use Prim.Native.Nat.{_≤_};
 ghost use lib.Dec.{eqb};
-ghost use Rattle.dump_record.specs.Record.{settled, blank, sound, refusal, replies, frames};
+ghost use Rattle.dump_checks.specs.Checks.{settled, blank, sound, refusal, replies, frames};
 use dump_next::Sends;
 use dump_next::Session;
 use dump_next::Settings;

@@ -14,7 +14,7 @@ use Rattle.dump_next.specs.declared.Settings.{Settings}
 use Rattle.dump_next.specs.declared.Session.{Session}
 use Rattle.dump_next.specs.declared.Sends.{Sends}
 use Rattle.dump_next.specs.declared.Sends.the-variants.{Nothing, Request, Complete}
-use Rattle.dump_record.specs.Record.{settled, blank, sound, refusal, replies, frames}
+use Rattle.dump_checks.specs.Checks.{settled, blank, sound, refusal, replies, frames}
 
 -- Settings in their ranges.
 pub record Ranged (s : Settings) (size : ℕ) : Type 0 where

@@ -3,12 +3,12 @@ use Prim.Native.Nat.{_+_, _*_}
 use mathlib.Core.Path.{_≡_}
 use mathlib.Core.Bool.{true, not, _&&_, cond}
 use lib.Dec.{eqb, leb}
-use Rattle.dump_record.specs.Record.{blank, sound}
-use Rattle.dump_record.specs.Laws.{bound}
+use Rattle.dump_checks.specs.Checks.{blank, sound}
+use Rattle.dump_checks.specs.Laws.{bound}
 use native.Mathlib.Omega.{arith}
 use borrow.Author.Tests.{le-leb, lt-leb, not-true, not-false}
-use Rattle.dump_record.proofs.sound.Statement.{statement}
-use Rattle.dump_record.proofs.sound.Tie as tie
+use Rattle.dump_checks.proofs.sound.Statement.{statement}
+use Rattle.dump_checks.proofs.sound.Tie as tie
 
 -- past the first four tests
 four : (c : tie.Else4)

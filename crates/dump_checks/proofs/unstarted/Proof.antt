@@ -2,9 +2,9 @@ use mathlib.Core.Path.{_≡_}
 use mathlib.Core.Bool.{_&&_, true, cond}
 use lib.Dec.{eqb}
 use borrow.Author.Tests.{eq-eqb, ne-eqb}
-use Rattle.dump_record.specs.Record.{blank}
-use Rattle.dump_record.proofs.unstarted.Statement.{statement}
-use Rattle.dump_record.proofs.unstarted.Tie as tie
+use Rattle.dump_checks.specs.Checks.{blank}
+use Rattle.dump_checks.proofs.unstarted.Statement.{statement}
+use Rattle.dump_checks.proofs.unstarted.Tie as tie
 
 -- past the first three tests
 three : (c : tie.Else3)

@@ -2,9 +2,9 @@ use borrow.Author.Needs.{needs}
 use native.Mathlib.Omega.{arith}
 use borrow.Author.Tests.{le-leb, lt-leb, not-true, not-false}
 use Rattle.step.specs.Step.{first}
-use Rattle.dump_record.specs.Laws.{ranged}
-use Rattle.dump_record.proofs.refusal.Statement.{statement}
-use Rattle.dump_record.proofs.refusal.Tie as tie
+use Rattle.dump_checks.specs.Laws.{ranged}
+use Rattle.dump_checks.proofs.refusal.Statement.{statement}
+use Rattle.dump_checks.proofs.refusal.Tie as tie
 
 settled-requires : tie.Need-settled-requires
 settled-requires c κs = search needs

@@ -1,6 +1,6 @@
 use borrow.Author.Tests.{eq-eqb, ne-eqb}
-use Rattle.dump_record.proofs.agrees.Statement.{statement}
-use Rattle.dump_record.proofs.agrees.Tie as tie
+use Rattle.dump_checks.proofs.agrees.Statement.{statement}
+use Rattle.dump_checks.proofs.agrees.Tie as tie
 
 returns : tie.Need-returns
 returns c = rw (eq-eqb _ _ (c .before .before .if1 .taken))

@@ -5,9 +5,9 @@ use mathlib.Core.Bool.{_&&_}
 use lib.Dec.{eqb, leb}
 use native.Mathlib.Omega.{arith}
 use borrow.Author.Tests.{le-leb, lt-leb}
-use Rattle.dump_record.specs.Record.{settled}
-use Rattle.dump_record.proofs.settled.Statement.{statement}
-use Rattle.dump_record.proofs.settled.Tie as tie
+use Rattle.dump_checks.specs.Checks.{settled}
+use Rattle.dump_checks.proofs.settled.Statement.{statement}
+use Rattle.dump_checks.proofs.settled.Tie as tie
 
 -- past the first four tests
 four : (c : tie.Else4)
