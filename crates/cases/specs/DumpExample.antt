@@ -11,7 +11,7 @@ use Rattle.memory.specs.Memory.{bytesFrom}
 use Rattle.step.specs.Step.{first}
 use Rattle.machine_next.specs.declared.Settings.{Settings as MachineSettings}
 use Rattle.machine_next.specs.Next as machine
-use Rattle.dump_next.specs.declared.Settings.{Settings as DumpSettings}
+use Rattle.dump_record.specs.declared.Settings.{Settings as DumpSettings}
 use Rattle.dump_checks.specs.Checks as dumpChecks
 use Rattle.link.specs.Link.{Event, own, handToMachine, handToHost, hostTimer, run}
 use Rattle.link_dump.specs.Model.{after}

@@ -7,11 +7,13 @@ use Rattle.buffer.specs.Lay.{over}
 use Rattle.message.specs.declared.Fields.{Fields}
 use Rattle.message.specs.Read.{part}
 use Rattle.step.specs.Step.{Act, Outcome, acts, call, frameCall}
-use Rattle.dump_next.specs.declared.Settings.{Settings}
-use Rattle.dump_next.specs.declared.Session.{Session}
-use Rattle.dump_next.specs.declared.Next.{Next}
-use Rattle.dump_next.specs.Next.{react, onTimer, sending}
-use Rattle.dump_checks.specs.Checks.{refusal, replies, frames}
+use Rattle.dump_record.specs.declared.Settings.{Settings}
+use Rattle.dump_record.specs.declared.Session.{Session}
+use Rattle.dump_record.specs.declared.Next.{Next}
+use Rattle.dump_next.specs.Next.{react, sending}
+use Rattle.dump_timer.specs.Timer.{onTimer}
+use Rattle.dump_checks.specs.Checks.{refusal}
+use Rattle.dump_count.specs.Count.{replies, frames}
 
 -- ---- what is counted, and what stands in the dump buffer
 -- this record with its counts raised

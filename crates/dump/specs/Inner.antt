@@ -1,11 +1,11 @@
 -- What the inner functions rest on.
 use Prim.Native.Nat.{ℕ, _+_, _^_, _<_, _≤_}
 use mathlib.Core.Bool.{Bool, true, false}
-use Rattle.dump_next.specs.declared.Settings.{Settings}
-use Rattle.dump_next.specs.declared.Session.{Session}
-use Rattle.dump_next.specs.declared.Sends.{Sends}
-use Rattle.dump_next.specs.declared.Sends.the-variants.{Nothing, Request, Complete}
-use Rattle.dump_next.specs.declared.Next.{Next}
+use Rattle.dump_record.specs.declared.Settings.{Settings}
+use Rattle.dump_record.specs.declared.Session.{Session}
+use Rattle.dump_record.specs.declared.Sends.{Sends}
+use Rattle.dump_record.specs.declared.Sends.the-variants.{Nothing, Request, Complete}
+use Rattle.dump_record.specs.declared.Next.{Next}
 
 -- if code 4 goes out, something is missing
 abbrev pub Missing : Settings → Session → Sends → Type 0

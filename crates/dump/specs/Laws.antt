@@ -16,11 +16,13 @@ use Rattle.message.specs.Read.{fields, part}
 use Rattle.message.specs.Write.{sent}
 use Rattle.step.specs.Step.{gives, Leaves}
 use Rattle.step.specs.Laws.{frame-accepted}
-use Rattle.dump_next.specs.declared.Settings.{Settings}
-use Rattle.dump_next.specs.declared.Session.{Session}
-use Rattle.dump_next.specs.declared.Sends.the-variants.{Nothing, Request, Complete}
-use Rattle.dump_next.specs.declared.Next.{Next}
-use Rattle.dump_next.specs.Next.{place, asked, reached, takes, react, onTimer}
+use Rattle.dump_record.specs.declared.Settings.{Settings}
+use Rattle.dump_record.specs.declared.Session.{Session}
+use Rattle.dump_record.specs.declared.Sends.the-variants.{Nothing, Request, Complete}
+use Rattle.dump_record.specs.declared.Next.{Next}
+use Rattle.dump_record.specs.Record.{place, asked, reached}
+use Rattle.dump_next.specs.Next.{takes, react}
+use Rattle.dump_timer.specs.Timer.{onTimer}
 use Rattle.dump_checks.specs.Checks.{refusal}
 use Rattle.dump_checks.specs.Laws.{bound, Accepted}
 use Rattle.dump.specs.Dump.{counted, filled, does, onFrame, dumpFrame}

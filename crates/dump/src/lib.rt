@@ -7,14 +7,14 @@ ghost use Rattle.buffer.specs.Lay.{refused, Came};
 ghost use Rattle.message.specs.Message.{requestDump};
 ghost use Rattle.message.specs.Write.{sent};
 ghost use Rattle.step.specs.Step.{gives, Leaves};
-ghost use Rattle.dump_next.specs.Next.{fresh, place, asked};
+ghost use Rattle.dump_record.specs.Record.{fresh, place, asked};
 ghost use Rattle.dump.specs.Dump.{counted, filled, does, dumpFrame, dumpTimer};
 ghost use Rattle.dump.specs.Inner.{Room, Ready};
 use buffer::Written;
-use dump_next::Next;
-use dump_next::Sends;
-use dump_next::Session;
-use dump_next::Settings;
+use dump_record::Next;
+use dump_record::Sends;
+use dump_record::Session;
+use dump_record::Settings;
 
 // What a step gives: the next record, and the length of the frame to send, 0 for none, or a refusal.
 #[repr(C)]
@@ -27,7 +27,7 @@ pub struct Stepped {
 pub fn start() -> Session
     ensures { λ r. ⌜ r ≡ fresh ⌝ }
 {
-    dump_next::start()
+    dump_record::start()
 }
 
 // The record stays, and a refusal is answered.
@@ -47,8 +47,8 @@ fn counted(n: Next) -> Session
 {
     let mut h = n.session;
     let sends = n.sends;
-    h.replies = h.replies + dump_checks::replies(n.takes);
-    h.sent = h.sent + dump_checks::frames(sends);
+    h.replies = h.replies + dump_count::replies(n.takes);
+    h.sent = h.sent + dump_count::frames(sends);
     h
 }
 
@@ -58,7 +58,7 @@ fn request(s: Settings, h: Session, reply: &mut [u8]) -> Written
     ensures { λ r. ⌜ Came (sent (requestDump (place s h) (asked s h)) (now (reply .entry))) r (now (reply .exit)) ⌝ }
 {
     let place = (s.address as u64 + h.filled) as u32;
-    let count = dump_next::asked(s, h) as u16;
+    let count = dump_record::asked(s, h) as u16;
     writer::request_dump(place, count, reply)
 }
 
@@ -134,6 +134,6 @@ pub fn timer(settings: Settings, session: Session, buffer: &[u8], reply: &mut [u
     if refusal != 0 {
         return refused(session, refusal);
     }
-    let next = dump_next::on_timer(settings, session);
+    let next = dump_timer::on_timer(settings, session);
     tell(settings, next, reply)
 }

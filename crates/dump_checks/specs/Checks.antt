@@ -1,16 +1,13 @@
--- The record of the host's end of a dump (PROTOCOL 5, 'Host end', and 7, 'Refusals'): what a call refuses of it, of the settings
--- and of the buffers, and by how much its counts are raised.
+-- What a call of the host's end of a dump refuses of its record, of the settings and of the buffers (PROTOCOL 5, 'Host end', and
+-- 7, 'Refusals').
 use Prim.Native.Nat.{ℕ, _+_, _*_}
-use mathlib.Core.Bool.{Bool, true, false, not, _&&_, cond as pick}
+use mathlib.Core.Bool.{Bool, true, not, _&&_, cond as pick}
 use mathlib.Core.List.{[], _∷_}
 use lib.Dec.{eqb, leb}
 use Rattle.step.specs.Step.{unless, first}
-use Rattle.dump_next.specs.declared.Settings.{Settings}
-use Rattle.dump_next.specs.declared.Session.{Session}
-use Rattle.dump_next.specs.declared.Sends.{Sends}
-use Rattle.dump_next.specs.declared.Sends.the-variants.{Nothing, Request, Complete}
+use Rattle.dump_record.specs.declared.Settings.{Settings}
+use Rattle.dump_record.specs.declared.Session.{Session}
 
--- ---- refusals
 -- C, R, and a range of at least a byte within the address space, into a buffer of just its length
 abbrev pub settled : Settings → ℕ → Bool
 settled s size =
@@ -32,14 +29,3 @@ sound s h =
 -- a call's refusal, with a dump buffer and a reply buffer of so many bytes; 0 is none
 abbrev pub refusal : Settings → Session → ℕ → ℕ → ℕ
 refusal s h size room = first (unless (settled s size) 10 ∷ unless (sound s h) 10 ∷ unless (leb 1500 room) 9 ∷ [])
-
--- ---- counts
--- how many replies are taken, and how many frames go out
-abbrev pub replies : Bool → ℕ
-replies false = 0
-replies true = 1
-
-abbrev pub frames : Sends → ℕ
-frames Nothing = 0
-frames Request = 1
-frames Complete = 1

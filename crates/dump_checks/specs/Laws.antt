@@ -1,7 +1,7 @@
--- What a call that is not refused has: settings in their ranges, a good record, and counts that rise by one.
+-- What a call that is not refused has: settings in their ranges, and a good record.
 use Prim.Native.Nat.{ℕ, _+_, _*_, _^_, _<_, _≤_}
 use mathlib.Core.Path.{_≡_}
-use mathlib.Core.Bool.{Bool, true, false, not, _&&_, cond as pick}
+use mathlib.Core.Bool.{true, not, _&&_, cond as pick}
 use mathlib.Core.List.{[], _∷_}
 use native.Mathlib.Omega.{arith}
 use native.Mathlib.Nat.{mul-le-mul-left}
@@ -10,11 +10,9 @@ use borrow.Author.Tests.{leb-true, eqb-true, eqb-false, not-true}
 use Rattle.octets.specs.TestLaws.{both}
 use Rattle.step.specs.Step.{unless}
 use Rattle.step.specs.Laws.{met, none}
-use Rattle.dump_next.specs.declared.Settings.{Settings}
-use Rattle.dump_next.specs.declared.Session.{Session}
-use Rattle.dump_next.specs.declared.Sends.{Sends}
-use Rattle.dump_next.specs.declared.Sends.the-variants.{Nothing, Request, Complete}
-use Rattle.dump_checks.specs.Checks.{settled, blank, sound, refusal, replies, frames}
+use Rattle.dump_record.specs.declared.Settings.{Settings}
+use Rattle.dump_record.specs.declared.Session.{Session}
+use Rattle.dump_checks.specs.Checks.{settled, blank, sound, refusal}
 
 -- Settings in their ranges.
 pub record Ranged (s : Settings) (size : ℕ) : Type 0 where
@@ -87,13 +85,3 @@ accepted s h size room e =
       numbers = kept s h (met (sound s h) 10 (omega arith) (second .0));
       room = leb-true 1500 room (met (leb 1500 room) 9 (omega arith) (third .0));
     }
-
--- at most one reply is taken, and one frame goes out
-pub one-reply : (takes : Bool) → replies takes ≤ 1
-one-reply true = omega arith
-one-reply false = omega arith
-
-pub one-frame : (sends : Sends) → frames sends ≤ 1
-one-frame Nothing = omega arith
-one-frame Request = omega arith
-one-frame Complete = omega arith

@@ -1,13 +1,12 @@
-// The record of the host's end of a dump (PROTOCOL 5, 'Host end', and 7, 'Refusals'): what a call refuses of it, of the settings
-// and of the buffers, and by how much its counts are raised.
+// What a call of the host's end of a dump refuses of its record, of the settings and of the buffers (PROTOCOL 5, 'Host end', and
+// 7, 'Refusals').
 ghost use mathlib.Core.Path.{_≡_};
 ghost use mathlib.Core.Bool.{true, not, cond};
 ghost use Prim.Native.Nat.{_≤_};
 ghost use lib.Dec.{eqb};
-ghost use Rattle.dump_checks.specs.Checks.{settled, blank, sound, refusal, replies, frames};
-use dump_next::Sends;
-use dump_next::Session;
-use dump_next::Settings;
+ghost use Rattle.dump_checks.specs.Checks.{settled, blank, sound, refusal};
+use dump_record::Session;
+use dump_record::Settings;
 
 // The settings are within their ranges, and the dump buffer has just the range's length.
 fn settled(s: Settings, size: usize) -> bool
@@ -111,25 +110,4 @@ pub fn refusal(s: Settings, h: Session, size: usize, room: usize) -> u8
         return 9;
     }
     0
-}
-
-// How many replies are taken.
-pub fn replies(takes: bool) -> u64
-    ensures { λ r. ⌜ r ≡ replies takes ⌝ }
-{
-    if takes {
-        return 1;
-    }
-    0
-}
-
-// How many frames go out.
-pub fn frames(sends: Sends) -> u64
-    ensures { λ r. ⌜ r ≡ frames sends ⌝ }
-{
-    match sends {
-        Sends::Nothing => 0,
-        Sends::Request => 1,
-        Sends::Complete => 1,
-    }
 }

@@ -8,8 +8,8 @@ use native.Mathlib.Nat.{add-mul}
 use lib.Dec.{eqb}
 use borrow.Author.Tests.{eq-eqb, ne-eqb, le-leb, eqb-true, eqb-false}
 use Rattle.octets.specs.TestLaws.{by-cases}
-use Rattle.dump_next.specs.declared.Settings.{Settings}
-use Rattle.dump_next.specs.Next as next
+use Rattle.dump_record.specs.declared.Settings.{Settings}
+use Rattle.dump_record.specs.Record as dumpRecord
 use Rattle.dump_checks.specs.Checks as dumpChecks
 use Rattle.link.specs.Link.{Frame, Turn, Ends}
 use Rattle.link.specs.LinkLaws.{Closed}
@@ -100,5 +100,5 @@ module _ (s : Settings) (some : 1 ≤ s .length) where
   alone-dump ends heard timed =
       alone (Good s) (λ h. h .session .sent) ends (λ h f b g. on-heard h g f _ (heard h f b)) (λ h b g. on-timed h g _ (timed h b))
 
-  pub fresh : (buffer : List ℕ) → Good s (record { session = next.fresh; buffer = buffer })
+  pub fresh : (buffer : List ℕ) → Good s (record { session = dumpRecord.fresh; buffer = buffer })
   fresh buffer = omega arith

@@ -12,8 +12,8 @@ use Rattle.memory.specs.Laws.{length-bytesFrom}
 use Rattle.step.specs.Step.{first}
 use Rattle.machine_next.specs.declared.Settings.{Settings as MachineSettings}
 use Rattle.machine_next.specs.Next as machine
-use Rattle.dump_next.specs.declared.Settings.{Settings as DumpSettings}
-use Rattle.dump_next.specs.Next as next
+use Rattle.dump_record.specs.declared.Settings.{Settings as DumpSettings}
+use Rattle.dump_timer.specs.Timer.{onTimer}
 use Rattle.dump_checks.specs.Checks as dumpChecks
 use Rattle.dump.specs.Dump as dump
 use Rattle.link.specs.Link.{World, Event}
@@ -138,7 +138,7 @@ module _
               call.frame-unrefused hostEnd _ f (w .host .session) (w .host .buffer) b (dump.onFrame s (w .host .session) f (w .host .buffer)) (host-accepted b l)
               (read (Tells memory) (tells-read memory) f (subst (Each (Carries (Tells memory))) e (k .0 .toHost) .0));
           hostTimer = λ b l.
-              call.unrefused hostEnd _ (w .host .session) (w .host .buffer) b (dump.does s (next.onTimer s (w .host .session)) (w .host .buffer)) (host-accepted b l);
+              call.unrefused hostEnd _ (w .host .session) (w .host .buffer) b (dump.does s (onTimer s (w .host .session)) (w .host .buffer)) (host-accepted b l);
           machineFrame = λ f q b e l. frame-unrefused ms (w .machine .machine) (w .machine .memory) b f (machine-accepted b l)
               (read Asks asks-read f (subst (Each (Carries Asks)) e (k .0 .toMachine) .0));
           machineTimer = λ b l. timer-unrefused ms (w .machine .machine) (w .machine .memory) b (machine-accepted b l);

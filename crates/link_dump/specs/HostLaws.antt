@@ -15,10 +15,12 @@ use Rattle.message.specs.Read.{fields, part}
 use Rattle.message.specs.Write.{layout}
 use Rattle.message.specs.Laws.{fields-inside}
 use Rattle.step.specs.Step.{first}
-use Rattle.dump_next.specs.declared.Session.{Session}
-use Rattle.dump_next.specs.declared.Settings.{Settings}
-use Rattle.dump_next.specs.declared.Next.{Next}
+use Rattle.dump_record.specs.declared.Session.{Session}
+use Rattle.dump_record.specs.declared.Settings.{Settings}
+use Rattle.dump_record.specs.declared.Next.{Next}
+use Rattle.dump_record.specs.Record as dumpRecord
 use Rattle.dump_next.specs.Next as next
+use Rattle.dump_timer.specs.Timer.{onTimer}
 use Rattle.dump_checks.specs.Checks as dumpChecks
 use Rattle.dump.specs.Dump as dump
 use Rattle.link.specs.Link.{Frame, Turn, refuses, acts, queued}
@@ -107,7 +109,7 @@ module _ (s : Settings) (h : Host) where
     abbrev OnFrame : Next → Type 0
     OnFrame n = Heard s h f (does n (dump.filled (n .takes) d (r .filled) (h .buffer)))
 
-    same : OnFrame (next.ignores r)
+    same : OnFrame (dumpRecord.ignores r)
     same = ignored _ (now _ refl refl (add-zero _) (add-zero _))
 
     on-offer : r .verdict ≡ 0 → OnFrame (next.onOffer r)
@@ -119,12 +121,12 @@ module _ (s : Settings) (h : Host) where
       where
         go : (a : ℕ) → fields f .address ≡ a → OnFrame (next.onData s r a (length d))
         go a q =
-            by-cases OnFrame (eqb (r .waiting) 0 && eqb a (next.place s r) && leb 1 (length d) && leb (length d) (next.asked s r)) (λ t.
-            let few = both (eqb (r .waiting) 0 && eqb a (next.place s r) && leb 1 (length d)) (leb (length d) (next.asked s r)) t in
-            let some = both (eqb (r .waiting) 0 && eqb a (next.place s r)) (leb 1 (length d)) (few .0) in
-            let there = both (eqb (r .waiting) 0) (eqb a (next.place s r)) (some .0) in
+            by-cases OnFrame (eqb (r .waiting) 0 && eqb a (dumpRecord.place s r) && leb 1 (length d) && leb (length d) (dumpRecord.asked s r)) (λ t.
+            let few = both (eqb (r .waiting) 0 && eqb a (dumpRecord.place s r) && leb 1 (length d)) (leb (length d) (dumpRecord.asked s r)) t in
+            let some = both (eqb (r .waiting) 0 && eqb a (dumpRecord.place s r)) (leb 1 (length d)) (few .0) in
+            let there = both (eqb (r .waiting) 0) (eqb a (dumpRecord.place s r)) (some .0) in
             let w : Sending r = (eqb-true _ _ (there .0), v) in
-            let at : fields f .address ≡ s .address + r .filled = omega (arith, eqb-true a (next.place s r) (there .1)) in
+            let at : fields f .address ≡ s .address + r .filled = omega (arith, eqb-true a (dumpRecord.place s r) (there .1)) in
             let reply : Reply s r f d = ((c, at, refl), leb-true _ _ (some .1), leb-true _ _ (few .1)) in
             by-cases OnFrame (eqb (r .filled + length d) (s .length)) (λ l. finishes _ d w reply (eqb-true _ _ l) (now _ refl refl refl refl))
             (λ l. asks _ d w reply (eqb-false _ _ l) (now _ refl v refl refl))) (λ _. same)
@@ -144,10 +146,10 @@ module _ (s : Settings) (h : Host) where
   abbrev OnTimer : Next → Type 0
   OnTimer n = Timed s h (does n (h .buffer))
 
-  idle : OnTimer (next.ignores r)
+  idle : OnTimer (dumpRecord.ignores r)
   idle = ignored _ (now _ refl refl (add-zero _) (add-zero _))
 
-  on-timer : OnTimer (next.onTimer s r)
+  on-timer : OnTimer (onTimer s r)
   on-timer =
       by-cases OnTimer (eqb (r .verdict) 0) (λ v.
       by-cases OnTimer (eqb (r .waiting) 0) (λ w.
@@ -157,5 +159,5 @@ module _ (s : Settings) (h : Host) where
 
   pub timed : (b : List ℕ) → Timed s h (hostTurned (dump.dumpTimer s r (h .buffer) b))
   timed b =
-      came (Timed s h) _ _ _ (called hostEnd (dumpChecks.refusal s r (length (h .buffer)) (length b)) r (h .buffer) b (dump.does s (next.onTimer s r) (h .buffer)))
+      came (Timed s h) _ _ _ (called hostEnd (dumpChecks.refusal s r (length (h .buffer)) (length b)) r (h .buffer) b (dump.does s (onTimer s r) (h .buffer)))
       refused on-timer

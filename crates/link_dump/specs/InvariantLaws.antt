@@ -21,7 +21,7 @@ use Rattle.step.specs.Step.{Sending, acts as does}
 use Rattle.machine_next.specs.declared.Settings.{Settings as MachineSettings}
 use Rattle.machine_next.specs.Next as machine
 use Rattle.machine_next.specs.Laws.{in-range}
-use Rattle.dump_next.specs.declared.Settings.{Settings as DumpSettings}
+use Rattle.dump_record.specs.declared.Settings.{Settings as DumpSettings}
 use Rattle.dump_checks.specs.Checks as dumpChecks
 use Rattle.link.specs.Link.{Frame, Turn, acts, queued, World}
 use Rattle.link.specs.LinkLaws.{Closed}

@@ -9,9 +9,9 @@ use Rattle.memory.specs.Memory.{bytesFrom}
 use Rattle.step.specs.Step.{Outcome}
 use Rattle.machine_next.specs.declared.Settings.{Settings as MachineSettings}
 use Rattle.machine_next.specs.Next.{offering}
-use Rattle.dump_next.specs.declared.Session.{Session}
-use Rattle.dump_next.specs.declared.Settings.{Settings as DumpSettings}
-use Rattle.dump_next.specs.Next.{fresh}
+use Rattle.dump_record.specs.declared.Session.{Session}
+use Rattle.dump_record.specs.declared.Settings.{Settings as DumpSettings}
+use Rattle.dump_record.specs.Record.{fresh}
 use Rattle.dump_checks.specs.Checks as dumpChecks
 use Rattle.dump.specs.Dump as dump
 use Rattle.link.specs.Link.{Turn, turned, Ends, World, Event, run}

@@ -20,9 +20,9 @@ use Rattle.machine_next.specs.declared.Machine.{Machine}
 use Rattle.machine_next.specs.declared.Settings.{Settings as MachineSettings}
 use Rattle.machine_next.specs.Next as machine
 use Rattle.machine_timer.specs.Timer.{machineTimer}
-use Rattle.dump_next.specs.declared.Session.{Session}
-use Rattle.dump_next.specs.declared.Settings.{Settings as DumpSettings}
-use Rattle.dump_next.specs.Next as next
+use Rattle.dump_record.specs.declared.Session.{Session}
+use Rattle.dump_record.specs.declared.Settings.{Settings as DumpSettings}
+use Rattle.dump_record.specs.Record as dumpRecord
 use Rattle.dump_checks.specs.Checks as dumpChecks
 use Rattle.link.specs.Link.{acts, turn, Event}
 use Rattle.link.specs.Bounded.{runWithin}
@@ -38,7 +38,7 @@ use Rattle.link_dump.specs.DumpedLaws.{dumped-alike, kept, kept-within, 
 -- left by its contract, if it was not refused.
 pub started-dump : (ms : MachineSettings) (m : Machine) (memory buffer reply reply′ : List ℕ) (answer : Written)
     → machine.refusal ms machine.offering (length memory) (length reply) ≡ 0 → Leaves (machineTimer ms machine.offering memory reply) m answer memory reply′
-    → (freshWorld ms memory buffer .host .session ≡ next.fresh)
+    → (freshWorld ms memory buffer .host .session ≡ dumpRecord.fresh)
     × (turn (machineEnd m memory) answer reply′ ≡ acts (freshWorld ms memory buffer .machine) (freshWorld ms memory buffer .toHost))
 started-dump ms m memory buffer reply reply′ answer r l = (refl, starts ms machine.offering m memory memory reply reply′ answer r l)
 

@@ -28,10 +28,12 @@ use Rattle.load_next.specs.declared.Next.{Next as LoadNext}
 use Rattle.load_next.specs.Next as load
 use Rattle.load.specs.Load as loads
 use Rattle.load.specs.Load.{loadFrame, loadTimer}
-use Rattle.dump_next.specs.declared.Settings.{Settings as DumpSettings}
-use Rattle.dump_next.specs.declared.Session.{Session as DumpSession}
-use Rattle.dump_next.specs.declared.Next.{Next as DumpNext}
+use Rattle.dump_record.specs.declared.Settings.{Settings as DumpSettings}
+use Rattle.dump_record.specs.declared.Session.{Session as DumpSession}
+use Rattle.dump_record.specs.declared.Next.{Next as DumpNext}
+use Rattle.dump_record.specs.Record as dumpRecord
 use Rattle.dump_next.specs.Next as dump
+use Rattle.dump_timer.specs.Timer.{repeated as repeatedDump, onTimer as onDumpTimer}
 use Rattle.dump_checks.specs.Checks as dumpChecks
 use Rattle.dump.specs.Dump as dumps
 use Rattle.dump.specs.Dump.{dumpFrame, dumpTimer}
@@ -109,33 +111,33 @@ module _ (s : DumpSettings) (h : DumpSession) (buffer reply : List ℕ) where
   abbrev D : List ℕ → DumpNext → Type 0
   D made next = Seen dumpVerdict h buffer reply (gives (dumps.does s next made) reply)
 
-  asks : (made : List ℕ) (r : DumpSession) (takes : Bool) → D made (dump.asks r takes)
+  asks : (made : List ℕ) (r : DumpSession) (takes : Bool) → D made (dumpRecord.asks r takes)
   unfolding layout
   asks made r takes =
-      let m = requestDump (dump.place s r) (dump.asked s r) in
-      sent-seen dumpVerdict h buffer reply (dumps.counted (dump.asks r takes)) made m (omega arith)
+      let m = requestDump (dumpRecord.place s r) (dumpRecord.asked s r) in
+      sent-seen dumpVerdict h buffer reply (dumps.counted (dumpRecord.asks r takes)) made m (omega arith)
 
-  completes : (made : List ℕ) (r : DumpSession) (n : ℕ) (takes : Bool) → D made (dump.completes r n takes)
+  completes : (made : List ℕ) (r : DumpSession) (n : ℕ) (takes : Bool) → D made (dumpRecord.completes r n takes)
   unfolding layout
-  completes made r n takes = sent-seen dumpVerdict h buffer reply (dumps.counted (dump.completes r n takes)) made dumpComplete (omega arith)
+  completes made r n takes = sent-seen dumpVerdict h buffer reply (dumps.counted (dumpRecord.completes r n takes)) made dumpComplete (omega arith)
 
   module _ (bytes : List ℕ) where
     abbrev F : DumpNext → Type 0
     F next = D (dumps.filled (next .takes) bytes (h .filled) buffer) next
 
-    kept : F (dump.ignores h)
+    kept : F (dumpRecord.ignores h)
     kept _ _ _ = simp add-zero
 
     taken : (r : DumpSession) → F (dump.takes s r)
-    taken r = by-cases F (eqb (r .filled) (s .length)) {x = dump.completes r 1 true} {y = dump.asks r true} (λ _. completes _ r 1 true) (λ _. asks _ r true)
+    taken r = by-cases F (eqb (r .filled) (s .length)) {x = dumpRecord.completes r 1 true} {y = dumpRecord.asks r true} (λ _. completes _ r 1 true) (λ _. asks _ r true)
 
     reacts : (f : Fields) → F (dump.react s h f)
     reacts f =
         by-cases F (eqb (h .verdict) 0) (λ _.
-        by-cases F (eqb (f .code) 12) (λ _. by-cases F (eqb (h .waiting) 1) (λ _. asks _ (dump.reached h 0) false) (λ _. kept)) (λ _.
+        by-cases F (eqb (f .code) 12) (λ _. by-cases F (eqb (h .waiting) 1) (λ _. asks _ (dumpRecord.reached h 0) false) (λ _. kept)) (λ _.
         by-cases F (eqb (f .code) 14) (λ _.
-        by-cases F (eqb (h .waiting) 0 && eqb (f .address) (dump.place s h) && leb 1 (f .«data_length») && leb (f .«data_length») (dump.asked s h))
-        (λ _. taken (dump.reached h (h .filled + f .«data_length»))) (λ _. kept)) (λ _. kept)))
+        by-cases F (eqb (h .waiting) 0 && eqb (f .address) (dumpRecord.place s h) && leb 1 (f .«data_length») && leb (f .«data_length») (dumpRecord.asked s h))
+        (λ _. taken (dumpRecord.reached h (h .filled + f .«data_length»))) (λ _. kept)) (λ _. kept)))
         (λ _. kept)
 
   pub dump-frame-seen : (frame : List ℕ) → Seen dumpVerdict h buffer reply (dumpFrame s h frame buffer reply)
@@ -146,10 +148,10 @@ module _ (s : DumpSettings) (h : DumpSession) (buffer reply : List ℕ) where
 
   pub dump-timer-seen : Seen dumpVerdict h buffer reply (dumpTimer s h buffer reply)
   dump-timer-seen =
-      called dumpVerdict h buffer reply (dumpChecks.refusal s h (length buffer) (length reply)) (dumps.does s (dump.onTimer s h) buffer)
+      called dumpVerdict h buffer reply (dumpChecks.refusal s h (length buffer) (length reply)) (dumps.does s (onDumpTimer s h) buffer)
       (by-cases (D buffer) (eqb (h .verdict) 0) (λ _.
       by-cases (D buffer) (eqb (h .waiting) 0) (λ _.
-      by-cases (D buffer) (ltb (h .repeats) (s .repeats)) (λ _. asks buffer (dump.repeated h) false) (λ _. completes buffer h 3 false)) (λ _. kept []))
+      by-cases (D buffer) (ltb (h .repeats) (s .repeats)) (λ _. asks buffer (repeatedDump h) false) (λ _. completes buffer h 3 false)) (λ _. kept []))
       (λ _. kept []))
 
 -- ---- the host's loop test

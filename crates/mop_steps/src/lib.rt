@@ -6,7 +6,7 @@ ghost use Rattle.machine_timer.specs.Timer.{machineTimer};
 ghost use Rattle.machine.specs.Machine.{machineFrame};
 ghost use Rattle.load_next.specs.Next.{fresh as freshLoad};
 ghost use Rattle.load.specs.Load.{loadFrame, loadTimer};
-ghost use Rattle.dump_next.specs.Next.{fresh as freshDump};
+ghost use Rattle.dump_record.specs.Record.{fresh as freshDump};
 ghost use Rattle.dump.specs.Dump.{dumpFrame, dumpTimer};
 ghost use Rattle.looptest.specs.Loop.{loopStart, loopFrame, loopTimer};
 
@@ -96,16 +96,16 @@ pub extern "C" fn mop_load_timer(
 // The host's dump: mop_dump of the header.
 
 #[no_mangle]
-pub extern "C" fn mop_dump_start() -> dump_next::Session
+pub extern "C" fn mop_dump_start() -> dump_record::Session
     ensures { λ r. ⌜ r ≡ freshDump ⌝ }
 {
-    dump_next::start()
+    dump_record::start()
 }
 
 #[no_mangle]
 pub extern "C" fn mop_dump_frame(
-    settings: dump_next::Settings,
-    session: dump_next::Session,
+    settings: dump_record::Settings,
+    session: dump_record::Session,
     frame: &[u8],
     buffer: &mut [u8],
     reply: &mut [u8],
@@ -117,8 +117,8 @@ pub extern "C" fn mop_dump_frame(
 
 #[no_mangle]
 pub extern "C" fn mop_dump_timer(
-    settings: dump_next::Settings,
-    session: dump_next::Session,
+    settings: dump_record::Settings,
+    session: dump_record::Session,
     buffer: &[u8],
     reply: &mut [u8],
 ) -> dump::Stepped

@@ -39,8 +39,8 @@ pub extern "C" fn mop_load_update_timer(
 
 #[no_mangle]
 pub extern "C" fn mop_dump_update_frame(
-    settings: dump_next::Settings,
-    session: &mut dump_next::Session,
+    settings: dump_record::Settings,
+    session: &mut dump_record::Session,
     frame: &[u8],
     buffer: &mut [u8],
     reply: &mut [u8],
@@ -54,8 +54,8 @@ pub extern "C" fn mop_dump_update_frame(
 
 #[no_mangle]
 pub extern "C" fn mop_dump_update_timer(
-    settings: dump_next::Settings,
-    session: &mut dump_next::Session,
+    settings: dump_record::Settings,
+    session: &mut dump_record::Session,
     buffer: &[u8],
     reply: &mut [u8],
 ) -> Written

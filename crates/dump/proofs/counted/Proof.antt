@@ -1,6 +1,6 @@
 use borrow.Author.Needs.{needs}
 use native.Mathlib.Omega.{arith}
-use Rattle.dump_checks.specs.Laws.{one-reply, one-frame}
+use Rattle.dump_count.specs.Laws.{one-reply, one-frame}
 use Rattle.dump.proofs.counted.Statement.{statement}
 use Rattle.dump.proofs.counted.Tie as tie
 

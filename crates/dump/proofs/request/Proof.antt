@@ -5,7 +5,7 @@ use Rattle.octets.specs.Number.{low}
 use Rattle.message.specs.Message.{requestDump}
 use Rattle.message.specs.Write.{layout}
 use Rattle.step.specs.Laws.{sent-by}
-use Rattle.dump_next.specs.Next.{place, asked}
+use Rattle.dump_record.specs.Record.{place, asked}
 use Rattle.dump.proofs.request.Statement.{statement}
 use Rattle.dump.proofs.request.Tie as tie
 

@@ -1,7 +1,7 @@
 use borrow.Author.Needs.{needs}
 use lib.ListN.{length}
 use Rattle.step.specs.Laws.{call-refused, call-accepted}
-use Rattle.dump_next.specs.Next.{onTimer}
+use Rattle.dump_timer.specs.Timer.{onTimer}
 use Rattle.dump.specs.Dump.{does}
 use Rattle.dump_checks.specs.Laws.{accepted}
 use Rattle.dump.specs.Laws.{ready-timer}

@@ -5,7 +5,8 @@ use mathlib.Core.Bool.{_&&_, cond}
 use lib.Dec.{leb}
 use native.Mathlib.Omega.{arith}
 use borrow.Author.Tests.{eq-eqb, ne-eqb, le-leb, lt-leb}
-use Rattle.dump_next.specs.Next.{place, asked, reached, takes, ignores, onData}
+use Rattle.dump_record.specs.Record.{place, asked, reached, ignores}
+use Rattle.dump_next.specs.Next.{takes, onData}
 use Rattle.dump_next.proofs.on_data.Statement.{statement}
 use Rattle.dump_next.proofs.on_data.Tie as tie
 

@@ -41,13 +41,13 @@ use denote.Exit.{yes}
 use denote.Signature.{plain}
 use Rattle.step.specs.Step.{Leaves}
 use Rattle.dump.specs.Dump.{dumpFrame}
-use Rattle.dump_next.specs.declared.Settings.{Settings}
-use Rattle.dump_next.specs.declared.Session.{Session}
+use Rattle.dump_record.specs.declared.Settings.{Settings}
+use Rattle.dump_record.specs.declared.Session.{Session}
 use Rattle.dump.specs.declared.Stepped.{Stepped}
-use Rattle.dump_next.proofs.Settings as N0
-use Rattle.dump_next.proofs.Settings.Laws as N0′
-use Rattle.dump_next.proofs.Session as T
-use Rattle.dump_next.proofs.Session.Laws as T′
+use Rattle.dump_record.proofs.Settings as N0
+use Rattle.dump_record.proofs.Settings.Laws as N0′
+use Rattle.dump_record.proofs.Session as T
+use Rattle.dump_record.proofs.Session.Laws as T′
 use Rattle.dump.proofs.Stepped as D
 use Rattle.dump.proofs.Stepped.Laws as D′
 use Rattle.buffer.proofs.Written as E

@@ -1,8 +1,8 @@
 use native.Mathlib.Omega.{arith}
 use borrow.Author.Needs.{needs}
 use borrow.Author.Tests.{eq-eqb, ne-eqb, lt-ltb, le-ltb}
-use Rattle.dump_next.proofs.on_timer.Statement.{statement}
-use Rattle.dump_next.proofs.on_timer.Tie as tie
+use Rattle.dump_timer.proofs.on_timer.Statement.{statement}
+use Rattle.dump_timer.proofs.on_timer.Tie as tie
 
 ignored-requires : tie.Need-ignored-requires
 ignored-requires c κs = search needs

@@ -1,5 +1,5 @@
-use Rattle.dump_checks.proofs.replies.Statement.{statement}
-use Rattle.dump_checks.proofs.replies.Tie as tie
+use Rattle.dump_count.proofs.replies.Statement.{statement}
+use Rattle.dump_count.proofs.replies.Tie as tie
 
 returns : tie.Need-returns
 returns c = rw (c .if1 .taken)

@@ -1,6 +1,6 @@
 use borrow.Author.Needs.{needs}
-use Rattle.dump_checks.proofs.frames.Statement.{statement}
-use Rattle.dump_checks.proofs.frames.Tie as tie
+use Rattle.dump_count.proofs.frames.Statement.{statement}
+use Rattle.dump_count.proofs.frames.Tie as tie
 
 enum-told : tie.Need-enum-told
 enum-told c = search needs
