@@ -12,10 +12,10 @@ use Rattle.octets.specs.TestLaws.{both}
 use Rattle.buffer.specs.Lay.{written}
 use Rattle.step.specs.Step.{unless, gives, Leaves}
 use Rattle.step.specs.Laws.{met, none, call-accepted}
-use Rattle.looptest_next.specs.declared.Settings.{Settings}
-use Rattle.looptest_next.specs.declared.Session.{Session}
-use Rattle.looptest_next.specs.declared.Next.{Next}
-use Rattle.looptest_next.specs.Next.{onTimer}
+use Rattle.looptest_record.specs.declared.Settings.{Settings}
+use Rattle.looptest_record.specs.declared.Session.{Session}
+use Rattle.looptest_timer.specs.declared.Next.{Next}
+use Rattle.looptest_timer.specs.Timer.{onTimer}
 use Rattle.looptest.specs.Loop.{settled, sound, refusal, counted, goesOut, does, loopTimer}
 
 -- What an accepted call has, so that its frame fits and its count does not overflow.

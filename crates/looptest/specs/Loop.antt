@@ -9,10 +9,11 @@ use Rattle.message.specs.declared.Fields.{Fields}
 use Rattle.message.specs.Message.{loopData}
 use Rattle.message.specs.Read.{part}
 use Rattle.step.specs.Step.{nothing, sends, Act, Outcome, unless, first, acts, call, frameCall}
-use Rattle.looptest_next.specs.declared.Settings.{Settings}
-use Rattle.looptest_next.specs.declared.Session.{Session}
-use Rattle.looptest_next.specs.declared.Next.{Next}
-use Rattle.looptest_next.specs.Next.{react, onTimer}
+use Rattle.looptest_record.specs.declared.Settings.{Settings}
+use Rattle.looptest_record.specs.declared.Session.{Session}
+use Rattle.looptest_timer.specs.declared.Next.{Next}
+use Rattle.looptest_next.specs.Next.{react}
+use Rattle.looptest_timer.specs.Timer.{onTimer}
 
 -- the test has sent its frame once
 abbrev pub begun : Session

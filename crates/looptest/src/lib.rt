@@ -6,8 +6,8 @@ ghost use Rattle.buffer.specs.Lay.{written, refused};
 ghost use Rattle.step.specs.Step.{gives, Leaves};
 ghost use Rattle.looptest.specs.Loop.{begun, counted, refusal, goesOut, loopStart, loopFrame, loopTimer};
 use buffer::Written;
-use looptest_next::Session;
-use looptest_next::Settings;
+use looptest_record::Session;
+use looptest_record::Settings;
 
 // What a step gives: the next record, and the length of the frame to send, 0 for none, or a refusal.
 #[repr(C)]
@@ -138,7 +138,7 @@ pub fn timer(settings: Settings, session: Session, bytes: &[u8], reply: &mut [u8
     if refusal != 0 {
         return refused(session, refusal);
     }
-    let next = looptest_next::on_timer(settings, session);
+    let next = looptest_timer::on_timer(settings, session);
     let sends = next.sends;
     if sends {
         return goes_out(settings, counted(next.session), bytes, reply);

@@ -1,4 +1,4 @@
--- Laws of a loop test's decisions: the comparison of two strings byte by byte, and the count of frames.
+-- Laws of a loop test's decision on a frame: the comparison of two strings byte by byte.
 use Prim.Native.Nat.{ℕ, suc, _+_, _≤_, _<_}
 use mathlib.Core.Path.{_≡_, refl, ap}
 use mathlib.Core.Bool.{true, false, _&&_, and-false}
@@ -6,14 +6,9 @@ use mathlib.Core.List.{List, [], _∷_}
 use native.Mathlib.Numerals.{add-one}
 use lib.ListN.{length, getD, drop, drop-of-length-le}
 use lib.Seq.{drop-cons}
-use lib.Dec.{eqb, ltb}
-use Rattle.octets.specs.TestLaws.{by-cases}
-use Rattle.looptest_next.specs.declared.Settings.{Settings}
-use Rattle.looptest_next.specs.declared.Session.{Session}
-use Rattle.looptest_next.specs.declared.Next.{Next}
-use Rattle.looptest_next.specs.Next.{same, onTimer}
+use lib.Dec.{eqb}
+use Rattle.looptest_next.specs.Next.{same}
 
--- ---- two strings
 -- of other lengths
 pub same-apart : (xs ys : List ℕ) → (length xs ≡ length ys → ⊥) → same xs ys ≡ false
 unfolding same
@@ -32,9 +27,3 @@ same-on xs ys i h l = rw (add-one, drop-cons xs i 0 h, drop-cons ys i 0 l)
 pub same-end : (xs ys : List ℕ) (i : ℕ) → length xs ≤ i → length ys ≤ i → same (drop i xs) (drop i ys) ≡ true
 unfolding same
 same-end xs ys i h l = rw (drop-of-length-le xs {i = i} h, drop-of-length-le ys {i = i} l)
-
--- ---- a timer leaves the count of frames
-pub timer-sent : (s : Settings) (h : Session) → onTimer s h .session .sent ≡ h .sent
-timer-sent s h =
-    let P : Next → Type 0 = λ n. n .session .sent ≡ h .sent in
-    by-cases P (eqb (h .verdict) 0) (λ _. by-cases P (ltb (h .repeats) (s .repeats)) (λ _. refl) (λ _. refl)) (λ _. refl)

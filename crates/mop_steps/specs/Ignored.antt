@@ -6,7 +6,7 @@ use Rattle.step.specs.Step.{Outcome, ignores, gives}
 use Rattle.machine_next.specs.declared.Machine.{Machine}
 use Rattle.load_next.specs.declared.Session.{Session as Load}
 use Rattle.dump_record.specs.declared.Session.{Session as Dump}
-use Rattle.looptest_next.specs.declared.Session.{Session as Loop}
+use Rattle.looptest_record.specs.declared.Session.{Session as Loop}
 
 -- what a caller compares with what it was
 abbrev pub machineState : Machine → ℕ

@@ -37,10 +37,12 @@ use Rattle.dump_timer.specs.Timer.{repeated as repeatedDump, onTimer as onDumpT
 use Rattle.dump_checks.specs.Checks as dumpChecks
 use Rattle.dump.specs.Dump as dumps
 use Rattle.dump.specs.Dump.{dumpFrame, dumpTimer}
-use Rattle.looptest_next.specs.declared.Settings.{Settings as LoopSettings}
-use Rattle.looptest_next.specs.declared.Session.{Session as LoopSession}
-use Rattle.looptest_next.specs.declared.Next.{Next as LoopNext}
+use Rattle.looptest_record.specs.declared.Settings.{Settings as LoopSettings}
+use Rattle.looptest_record.specs.declared.Session.{Session as LoopSession}
+use Rattle.looptest_timer.specs.declared.Next.{Next as LoopNext}
+use Rattle.looptest_record.specs.Record.{ended as endedLoop}
 use Rattle.looptest_next.specs.Next as loopNext
+use Rattle.looptest_timer.specs.Timer.{repeated as repeatedLoop, onTimer as onLoopTimer}
 use Rattle.looptest.specs.Loop as loop
 use Rattle.looptest.specs.Loop.{loopFrame, loopTimer}
 use Rattle.mop_steps.specs.Ignored.{Seen, loadVerdict, dumpVerdict, loopVerdict, machineState}
@@ -162,7 +164,7 @@ module _ (s : LoopSettings) (h : LoopSession) (bytes reply : List ℕ) where
   unmoved : L h
   unmoved _ _ _ = refl
 
-  over : (n : ℕ) → eqb (h .verdict) 0 ≡ true → 0 < n → L (loopNext.ended h n)
+  over : (n : ℕ) → eqb (h .verdict) 0 ≡ true → 0 < n → L (endedLoop h n)
   over n v p _ _ e = absurd (omega (arith, eqb-true (h .verdict) 0 v))
 
   pub loop-frame-seen : (frame : List ℕ) → Seen loopVerdict h tt reply (loopFrame s h bytes frame reply)
@@ -179,8 +181,8 @@ module _ (s : LoopSettings) (h : LoopSession) (bytes reply : List ℕ) where
   pub loop-timer-seen : Seen loopVerdict h tt reply (loopTimer s h bytes reply)
   unfolding layout
   loop-timer-seen =
-      let out = sent-seen loopVerdict h tt reply (loop.counted (loopNext.repeated h)) tt (loopData (s .receipt) bytes) (omega arith) in
-      called loopVerdict h tt reply (loop.refusal s h (length bytes) (length reply)) (loop.does s (loopNext.onTimer s h) bytes)
+      let out = sent-seen loopVerdict h tt reply (loop.counted (repeatedLoop h)) tt (loopData (s .receipt) bytes) (omega arith) in
+      called loopVerdict h tt reply (loop.refusal s h (length bytes) (length reply)) (loop.does s (onLoopTimer s h) bytes)
       (by-cases A (eqb (h .verdict) 0) (λ v. by-cases A (ltb (h .repeats) (s .repeats)) (λ _. out) (λ _. over 3 v (omega arith))) (λ _. unmoved))
     where
       A : LoopNext → Type 0

@@ -131,7 +131,7 @@ pub extern "C" fn mop_dump_timer(
 
 #[no_mangle]
 pub extern "C" fn mop_loop_start(
-    settings: looptest_next::Settings,
+    settings: looptest_record::Settings,
     bytes: &[u8],
     reply: &mut [u8],
 ) -> looptest::Stepped
@@ -142,8 +142,8 @@ pub extern "C" fn mop_loop_start(
 
 #[no_mangle]
 pub extern "C" fn mop_loop_frame(
-    settings: looptest_next::Settings,
-    session: looptest_next::Session,
+    settings: looptest_record::Settings,
+    session: looptest_record::Session,
     bytes: &[u8],
     frame: &[u8],
     reply: &[u8],
@@ -155,8 +155,8 @@ pub extern "C" fn mop_loop_frame(
 
 #[no_mangle]
 pub extern "C" fn mop_loop_timer(
-    settings: looptest_next::Settings,
-    session: looptest_next::Session,
+    settings: looptest_record::Settings,
+    session: looptest_record::Session,
     bytes: &[u8],
     reply: &mut [u8],
 ) -> looptest::Stepped

@@ -2,8 +2,8 @@ use borrow.Author.Needs.{needs}
 use lib.ListN.{length}
 use native.Mathlib.Omega.{arith}
 use Rattle.step.specs.Laws.{call-refused}
-use Rattle.looptest_next.specs.Next.{onTimer}
-use Rattle.looptest_next.specs.Laws.{timer-sent}
+use Rattle.looptest_timer.specs.Timer.{onTimer}
+use Rattle.looptest_timer.specs.Laws.{timer-sent}
 use Rattle.looptest.specs.Loop.{does}
 use Rattle.looptest.specs.Laws.{Accepted, accepted, timer-waits, timer-again}
 use Rattle.looptest.proofs.timer.Statement.{statement}

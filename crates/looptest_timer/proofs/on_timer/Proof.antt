@@ -1,8 +1,8 @@
 use native.Mathlib.Omega.{arith}
 use borrow.Author.Needs.{needs}
 use borrow.Author.Tests.{eq-eqb, ne-eqb, lt-ltb, le-ltb}
-use Rattle.looptest_next.proofs.on_timer.Statement.{statement}
-use Rattle.looptest_next.proofs.on_timer.Tie as tie
+use Rattle.looptest_timer.proofs.on_timer.Statement.{statement}
+use Rattle.looptest_timer.proofs.on_timer.Tie as tie
 
 waits-requires : tie.Need-waits-requires
 waits-requires c κs = search needs
