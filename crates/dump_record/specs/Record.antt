@@ -1,11 +1,10 @@
--- The record of the host's end of a dump (PROTOCOL 5, 'Host end'): its numbers and their updates, and what is done next with a
--- record, whether a reply is taken, and what goes out. The counts of replies and frames are raised by the calls.
+-- The record of the host's end of a dump (PROTOCOL 5, 'Host end'): its updates, and the three things that can be done next: it
+-- ignores, asks or completes. The counts of replies and frames are raised by the calls.
 use Prim.Native.Nat.{ℕ, _+_, _-_, min}
 use mathlib.Core.Bool.{Bool, false, cond as pick}
 use lib.Dec.{eqb}
 use Rattle.dump_record.specs.declared.Settings.{Settings}
 use Rattle.dump_record.specs.declared.Session.{Session}
-use Rattle.dump_record.specs.declared.Sends.{Sends}
 use Rattle.dump_record.specs.declared.Sends.the-variants.{Nothing, Request, Complete}
 use Rattle.dump_record.specs.declared.Next.{Next}
 

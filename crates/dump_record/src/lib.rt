@@ -1,4 +1,4 @@
-// The record of the host's end of a dump (PROTOCOL 5, 'Host end'): its settings, its numbers, and what is made of them.
+// The record of the host's end of a dump (PROTOCOL 5, 'Host end'): its settings, its updates, and what can be done next.
 ghost use mathlib.Core.Path.{_≡_};
 ghost use Rattle.dump_record.specs.Record.{fresh, asked, reached, ignores, asks, completes};
 

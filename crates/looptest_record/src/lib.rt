@@ -1,4 +1,4 @@
-// The record of the host's loop test (PROTOCOL 5, 'Host end'): its settings, its numbers, and its end.
+// The record of the host's loop test (PROTOCOL 5, 'Host end'): its settings, and its end.
 ghost use mathlib.Core.Path.{_≡_};
 ghost use Rattle.looptest_record.specs.Record.{ended};
 
