@@ -29,16 +29,18 @@ returns-2 c =
 returns-3 : tie.Need-returns-3
 unfolding first
 returns-3 c =
+    let room = c .before .before .before .before .before .args .room in
     let settled = c .before .before .before .before .settled in
     let sound = c .before .before .sound in
-    rw (← settled .ensures, not-false (settled .result) (c .before .before .before .if1 .left), ← sound .ensures, not-false (sound .result) (c .before .if2 .left), lt-leb _ _ (c .if3 .taken))
+    rw (← settled .ensures, not-false (settled .result) (c .before .before .before .if1 .left), ← sound .ensures, not-false (sound .result) (c .before .if2 .left), lt-leb 1500 room (omega arith))
 
 returns-4 : tie.Need-returns-4
 unfolding first
 returns-4 c =
+    let room = c .before .before .before .before .before .args .room in
     let settled = c .before .before .before .before .settled in
     let sound = c .before .before .sound in
-    rw (← settled .ensures, not-false (settled .result) (c .before .before .before .if1 .left), ← sound .ensures, not-false (sound .result) (c .before .if2 .left), le-leb _ _ (c .if3 .left))
+    rw (← settled .ensures, not-false (settled .result) (c .before .before .before .if1 .left), ← sound .ensures, not-false (sound .result) (c .before .if2 .left), le-leb 1500 room (omega arith))
 
 pub refusal-spec : {M : Type 1} → statement M
 refusal-spec =

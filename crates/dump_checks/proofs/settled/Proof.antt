@@ -50,10 +50,14 @@ add-end : tie.Need-add-end
 add-end c = search needs
 
 returns-6 : tie.Need-returns-6
-returns-6 c = rw (four (c .before .before .before .before .before), lt-leb _ _ (c .if6 .taken))
+returns-6 c =
+    let s = c .before .before .before .before .before .before .before .before .before .before .before .before .before .args .s in
+    rw (four (c .before .before .before .before .before), lt-leb (s .address + s .length) 4294967296 (omega arith))
 
 returns-7 : tie.Need-returns-7
-returns-7 c = rw (four (c .before .before .before .before .before .before), le-leb _ _ (c .before .if6 .left))
+returns-7 c =
+    let s = c .before .before .before .before .before .before .before .before .before .before .before .before .before .before .args .s in
+    rw (four (c .before .before .before .before .before .before), le-leb (s .address + s .length) 4294967296 (omega arith))
 
 pub settled-spec : {M : Type 1} → statement M
 settled-spec =
