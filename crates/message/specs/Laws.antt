@@ -13,7 +13,7 @@ use lib.ListN.{length, take, drop, length-append, length-take, length-drop, take
 use lib.Seq.{drop-cons, drop-drop, drop-at, take-at, getD-at, take-all, take-length}
 use lib.Dec.{eqb, ltb}
 use borrow.Author.Tests.{eq-eqb, ne-eqb, lt-ltb, le-ltb, eqb-true, eqb-false, ltb-false, ltb-true}
-use Rattle.octets.specs.Number.{number, low, Octets}
+use Rattle.octets.specs.Number.{word, low, Octets}
 use Rattle.octets.specs.NumberLaws.{octets-part, length-low, part-bound, number-low, low-number}
 use Rattle.buffer.specs.declared.Written.{Written}
 use Rattle.octets.specs.TestLaws.{by-cases, both}
@@ -23,7 +23,7 @@ use Rattle.entries_next.specs.declared.Place.the-variants.{Kind, Size, Value, T
 use Rattle.entries.specs.Entries.{walk}
 use Rattle.entries.specs.Laws.{walk-ended, accepted}
 use Rattle.message.specs.Message.{Message, memoryLoadTransfer, memoryLoad, requestProgram, requestLoad, requestDump, requestDumpService, dumpData, dumpComplete, volunteer, parameters, loopData, loopedData, programListed, formListed, idLength}
-use Rattle.message.specs.Read.{byte, word, lastWord, numbers, refusedFields, programRefusal, ended, inTurn, Row, row, rows, find, judged, frame, fields, Reading, refused, message, stated, said, read}
+use Rattle.message.specs.Read.{byte, lastWord, numbers, refusedFields, programRefusal, ended, inTurn, Row, row, rows, find, judged, frame, fields, Reading, refused, message, stated, said, read}
 use Rattle.message.specs.declared.Fields.{Fields}
 use Rattle.message.specs.Write.{entryList, parts, joined, layout, listed, Sized, write, sent}
 

@@ -2,23 +2,20 @@
 -- that the numbers state. The order: empty, code, least length, excess, then the bytes in turn.
 use Prim.Native.Nat.{ℕ, _+_, _-_}
 use mathlib.Core.Bool.{Bool, false, _||_, cond as pick}
-use mathlib.Core.List.{List, [], _∷_}
+use mathlib.Core.List.{List, [], _∷_, foldr}
 use mathlib.Core.Option.{Option, none, some}
 use lib.ListN.{length, getD, take, drop}
 use lib.Dec.{eqb, ltb}
-use Rattle.octets.specs.Number.{number}
+use Rattle.octets.specs.Number.{word}
 use Rattle.entries_next.specs.declared.Place.{Place}
 use Rattle.entries_next.specs.declared.Place.the-variants.{Kind, Size, Value, Time, Transfer, Outside, Excess}
 use Rattle.entries.specs.Entries.{walk}
 use Rattle.message.specs.Message.{Message, memoryLoadTransfer, memoryLoad, requestProgram, requestLoad, requestDump, requestDumpService, dumpData, dumpComplete, volunteer, parameters, loopData, loopedData, programListed, formListed, idLength}
 use Rattle.message.specs.declared.Fields.{Fields}
 
--- the byte at a place, and the number of n bytes from a place on
+-- the byte at a place
 abbrev pub byte : List ℕ → ℕ → ℕ
 byte s at = getD s at 0
-
-abbrev pub word : ℕ → List ℕ → ℕ → ℕ
-word n s at = number (take n (drop at s))
 
 -- the transfer address of codes 0 and 20: the last four bytes
 abbrev pub lastWord : List ℕ → ℕ
@@ -27,8 +24,7 @@ lastWord s = word 4 s (length s - 4)
 -- ---- a frame's numbers
 -- a code is one of these
 abbrev pub among : List ℕ → ℕ → Bool
-among [] code = false
-among (one ∷ rest) code = eqb code one || among rest code
+among codes code = foldr (λ one rest. eqb code one || rest) false codes
 
 -- The numbers of a frame of this code: each stands at its place in the frames of the codes beside it, and is 0 in all others.
 -- The variable part begins at `at`, 0 if there is none, and has all but the `fixed` bytes; the software id of code 8 comes before it.

@@ -2,7 +2,7 @@
 use Prim.Native.Nat.{ℕ, _^_}
 use mathlib.Core.Path.{_≡_}
 use mathlib.Core.Bool.{Bool, true, _&&_, cond as pick}
-use mathlib.Core.List.{List, [], _∷_, _++_}
+use mathlib.Core.List.{List, [], _∷_, _++_, foldr}
 use lib.ListN.{length, drop}
 use lib.Dec.{eqb, ltb}
 use Rattle.octets.specs.Number.{low}
@@ -70,17 +70,13 @@ unfoldable pub layout : Message → List ℕ
 unfolding joined
 layout m = joined [] (parts m)
 
-abbrev pub all : (Part → Bool) → List Part → Bool
-all test [] = true
-all test (part ∷ rest) = test part && all test rest
-
 -- its program type, software form and entries are listed, and its id fits its form
 abbrev pub listed : Message → Bool
-listed m = all (λ part. part .listed) (parts m)
+listed m = foldr (λ part rest. part .listed && rest) true (parts m)
 
 -- its numbers of several bytes fit their sizes
 abbrev pub Sized : Message → Type 0
-Sized m = all (λ part. part .sized) (parts m) ≡ true
+Sized m = foldr (λ part rest. part .sized && rest) true (parts m) ≡ true
 
 -- ---- the writers
 -- a writer's answer and its buffer at exit: 4, then 2, then 9; else the frame, then what stood behind it
