@@ -8,9 +8,9 @@ ghost use Rattle.text.specs.Text.{placed};
 ghost use Rattle.transcript.specs.Transcript.{badLine};
 ghost use Rattle.job.specs.Job.{setup, job, reading};
 ghost use Rattle.job.specs.Run.{run, freshEnds, begin, beginLine, endLine, Left};
+use buffer::Written;
 use load_next::Session;
 use machine_next::Machine;
-use buffer::Written;
 use queue::Queue;
 use script::Script;
 

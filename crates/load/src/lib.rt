@@ -10,11 +10,11 @@ ghost use Rattle.load_next.specs.Next.{fresh};
 ghost use Rattle.load_next.specs.Inner.{ahead};
 ghost use Rattle.load.specs.Load.{blank, settled, sound, consistent, numbered, counted, loadFrame, loadTimer};
 ghost use Rattle.load.specs.Inner.{piece, acting, Ruled, Sendable};
+use buffer::Written;
 use directory::Region;
 use load_next::Next;
 use load_next::Session;
 use load_next::Settings;
-use buffer::Written;
 
 // What a step gives: the next record, and the length of the frame to send, 0 for none, or a refusal.
 #[repr(C)]
