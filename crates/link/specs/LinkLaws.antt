@@ -29,6 +29,7 @@ module _ {H M X : Type 0} (ends : Ends H M X) where
   abbrev pub droppedToHost : World H M → List Frame → World H M
   droppedToHost w q = onFirst w q (λ f rest. withToHost w rest)
 
+module _ {H M X : Type 0} (ends : Ends H M X) where
   -- What an invariant must withstand of the link's own events: a frame handed over and kept, a frame lost, a timer, at either end.
   pub record Closed (Holds : World H M → Type 0) : Type 0 where
     pub keptM : (w : World H M) (f : Frame) (q : List Frame) (b : List ℕ) → w .toMachine ≡ f ∷ q → Holds w
