@@ -5,27 +5,15 @@ use mathlib.Core.Bool.{Bool, true, false}
 use mathlib.Core.List.{List, [], _∷_}
 use lib.ListN.{length, take, drop}
 use lib.Dec.{eqb, leb}
-use Rattle.octets.specs.Number.{number}
+use Rattle.octets.specs.Number.{word}
 use Rattle.directory.specs.declared.Trailer.{Trailer}
 use Rattle.directory.specs.declared.Region.{Region}
-
--- the most bytes of a file
-abbrev pub longest : ℕ
-longest = 16777216
-
--- the most entries of a directory
-abbrev pub most : ℕ
-most = 64
 
 -- the number of addresses
 abbrev pub addresses : ℕ
 addresses = 4294967296
 
 -- ---- fields
--- the number in n bytes of a string from a place on
-abbrev pub word : ℕ → List ℕ → ℕ → ℕ
-word n s at = number (take n (drop at s))
-
 -- directory offset 4, entry count 2, zero 2, transfer address 4, file length 4
 unfoldable pub trailerOf : List ℕ → Trailer
 trailerOf s =
@@ -80,15 +68,15 @@ demand false n next = n
 abbrev pub first : ℕ → ℕ → ℕ
 first n next = demand (eqb n 0) n next
 
--- 5 and 6, of a file of n bytes with this trailer
+-- 5 and 6, of a file of n bytes with this trailer; a file has at most 16,777,216 bytes, and a directory at most 64 entries
 abbrev pub trailerRefusal : ℕ → Trailer → ℕ
 trailerRefusal n t =
     demand (leb 16 n) 5
-    (demand (leb n longest) 5
+    (demand (leb n 16777216) 5
     (demand (eqb (t .length) n) 5
     (demand (eqb (t .zero) 0) 5
     (demand (leb 1 (t .count)) 6
-    (demand (leb (t .count) most) 6
+    (demand (leb (t .count) 64) 6
     (demand (eqb (t .directory + 12 * t .count + 16) n) 6 0))))))
 
 -- 7 and 8, of an entry, with the directory's start and the end of the region before

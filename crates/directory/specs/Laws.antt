@@ -10,7 +10,7 @@ use lib.Seq.{drop-drop}
 use borrow.Author.Tests.{leb-true, eqb-true, eqb-false}
 use Rattle.octets.specs.Number.{Octets}
 use Rattle.octets.specs.NumberLaws.{part-bound}
-use Rattle.directory.specs.Directory.{longest, most, addresses, trailerOf, trailer, entryAt, entries, ending, bytes, nowhere}
+use Rattle.directory.specs.Directory.{addresses, trailerOf, trailer, entryAt, entries, ending, bytes, nowhere}
 use Rattle.directory.specs.Directory.{demand, first, trailerRefusal, entryRefusal, entriesRefusal}
 use Rattle.directory.specs.declared.Trailer.{Trailer}
 use Rattle.directory.specs.declared.Region.{Region}
@@ -93,9 +93,9 @@ entries-cons file at (suc n) h =
 -- what the acceptance of a trailer says, in a file of n bytes
 pub record Placed (n : ℕ) (t : Trailer) : Type 0 where
   pub long : 16 ≤ n
-  pub short : n ≤ longest
+  pub short : n ≤ 16777216
   pub some : 1 ≤ t .count
-  pub few : t .count ≤ most
+  pub few : t .count ≤ 64
   pub placed : t .directory + 12 * t .count + 16 ≡ n
 
 pub placed : (n : ℕ) (t : Trailer) → trailerRefusal n t ≡ 0 → Placed n t

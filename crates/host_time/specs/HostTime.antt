@@ -13,23 +13,12 @@ within low high b = leb low b && leb b high
 abbrev pub signed : ℕ → ℤ
 signed b = pick (ltb b 128) (pos b) (negsuc (255 - b))
 
-abbrev pub minus : ℕ → ℤ
-minus n = negℤ (pos n)
-
 abbrev pub between : ℤ → ℤ → ℤ → Bool
 between low high z = leZ low z && leZ z high
 
--- zero lies between the first and the second
-abbrev pub straddle : ℤ → ℤ → Bool
-straddle a b = ltZ a (pos 0) && ltZ (pos 0) b
-
 -- one is below zero and the other above it
 abbrev pub opposite : ℤ → ℤ → Bool
-opposite a b = straddle a b || straddle b a
-
--- within the range, and never of the opposite sign to the hours
-abbrev pub offsetMinutes : ℤ → ℤ → Bool
-offsetMinutes h m = between (minus 59) (pos 59) m && not (opposite h m)
+opposite a b = (ltZ a (pos 0) && ltZ (pos 0) b) || (ltZ b (pos 0) && ltZ (pos 0) a)
 
 -- ---- the host time
 -- field k may be this byte, after the byte before it
@@ -43,6 +32,6 @@ field k before b =
     (pick (eqb k 5) (within 0 59 b)  -- minute
     (pick (eqb k 6) (within 0 59 b)  -- second
     (pick (eqb k 7) (within 0 99 b)  -- hundredths
-    (pick (eqb k 8) (between (minus 12) (pos 13) (signed b))  -- offset hours
-    (pick (eqb k 9) (offsetMinutes (signed before) (signed b))  -- offset minutes
+    (pick (eqb k 8) (between (negℤ (pos 12)) (pos 13) (signed b))  -- offset hours
+    (pick (eqb k 9) (between (negℤ (pos 59)) (pos 59) (signed b) && not (opposite (signed before) (signed b)))  -- offset minutes, never of the opposite sign to the hours
     false)))))))))

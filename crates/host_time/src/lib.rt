@@ -1,6 +1,9 @@
 // The fields of a host time, an entry of code 20 (PROTOCOL 2, 'Messages').
 ghost use mathlib.Core.Path.{_≡_};
-ghost use Rattle.host_time.specs.HostTime.{within, signed, between, straddle, opposite, offsetMinutes, field};
+ghost use mathlib.Core.Bool.{not, _&&_};
+ghost use lib.IntN.{pos, negℤ};
+ghost use lib.Signed.{ltZ};
+ghost use Rattle.host_time.specs.HostTime.{within, signed, between, opposite, field};
 
 fn within(low: u8, high: u8, b: u8) -> bool
     ensures { λ r. ⌜ r ≡ within low high b ⌝ }
@@ -27,7 +30,7 @@ fn between(low: i8, high: i8, z: i8) -> bool
 
 // Zero lies between the first and the second.
 fn straddle(a: i8, b: i8) -> bool
-    ensures { λ r. ⌜ r ≡ straddle a b ⌝ }
+    ensures { λ r. ⌜ r ≡ ltZ a (pos 0) && ltZ (pos 0) b ⌝ }
 {
     a < 0 && 0 < b
 }
@@ -41,7 +44,7 @@ fn opposite(a: i8, b: i8) -> bool
 
 // Within the range, and never of the opposite sign to the hours.
 fn offset_minutes(h: i8, m: i8) -> bool
-    ensures { λ r. ⌜ r ≡ offsetMinutes h m ⌝ }
+    ensures { λ r. ⌜ r ≡ between (negℤ (pos 59)) (pos 59) m && not (opposite h m) ⌝ }
 {
     between(-59, 59, m) && !opposite(h, m)
 }

@@ -4,8 +4,8 @@ use mathlib.Core.Path.{_≡_, refl, sym, subst, _∙_}
 use mathlib.Core.List.{List, [], _∷_, _++_, append-nil}
 use native.Mathlib.Omega.{arith}
 use lib.ListN.{take, drop, take-append-drop}
-use Rattle.link.specs.Link.{Frame, Turn, refuses, acts, World, Ends, Event, own, further, handToMachine, keepToMachine, dropToMachine, handToHost, keepToHost, dropToHost, hostTimer, machineTimer, Own, machineTurn, hostTurn, withToMachine, withToHost, handedToMachine, keptToMachine, droppedToMachine, handedToHost, keptToHost, droppedToHost, ownStep, step, run}
-use Rattle.link.specs.LinkLaws.{Lost, here, there, Closed, kept-any}
+use Rattle.link.specs.Link.{Frame, Turn, refuses, acts, World, Ends, Event, own, further, handToMachine, keepToMachine, dropToMachine, handToHost, keepToHost, dropToHost, hostTimer, machineTimer, Own, machineTurn, hostTurn, withToMachine, withToHost, ownStep, step, run}
+use Rattle.link.specs.LinkLaws.{handedToMachine, keptToMachine, droppedToMachine, handedToHost, keptToHost, droppedToHost, Lost, here, there, Closed, kept-any}
 use Rattle.link.specs.Bounded.{within, runWithin, Alike}
 
 -- A queue, and what is left of it when some of its frames are lost.

@@ -84,39 +84,19 @@ module _ {H M : Type 0} where
   abbrev pub withToHost : World H M → List Frame → World H M
   withToHost w q = record { host = w .host; machine = w .machine; toMachine = w .toMachine; toHost = q; taken = w .taken }
 
+  -- what an event makes of the first frame of a queue and of those behind it; an event on an empty queue changes nothing
+  abbrev pub onFirst : World H M → List Frame → (Frame → List Frame → World H M) → World H M
+  onFirst w [] event = w
+  onFirst w (f ∷ q) event = event f q
+
   module _ {X : Type 0} (ends : Ends H M X) where
-    -- the first frame of a queue; an event on an empty queue changes nothing
-    abbrev pub handedToMachine : World H M → List ℕ → List Frame → World H M
-    handedToMachine w b [] = w
-    handedToMachine w b (f ∷ q) = machineTurn w q (ends .machineFrame (w .machine) f b)
-
-    abbrev pub keptToMachine : World H M → List ℕ → List Frame → World H M
-    keptToMachine w b [] = w
-    keptToMachine w b (f ∷ q) = machineTurn w (f ∷ q) (ends .machineFrame (w .machine) f b)
-
-    abbrev pub droppedToMachine : World H M → List Frame → World H M
-    droppedToMachine w [] = w
-    droppedToMachine w (f ∷ q) = withToMachine w q
-
-    abbrev pub handedToHost : World H M → List ℕ → List Frame → World H M
-    handedToHost w b [] = w
-    handedToHost w b (f ∷ q) = hostTurn w q (ends .hostFrame (w .host) f b)
-
-    abbrev pub keptToHost : World H M → List ℕ → List Frame → World H M
-    keptToHost w b [] = w
-    keptToHost w b (f ∷ q) = hostTurn w (f ∷ q) (ends .hostFrame (w .host) f b)
-
-    abbrev pub droppedToHost : World H M → List Frame → World H M
-    droppedToHost w [] = w
-    droppedToHost w (f ∷ q) = withToHost w q
-
     abbrev pub ownStep : World H M → Own → World H M
-    ownStep w (handToMachine b) = handedToMachine w b (w .toMachine)
-    ownStep w (keepToMachine b) = keptToMachine w b (w .toMachine)
-    ownStep w dropToMachine = droppedToMachine w (w .toMachine)
-    ownStep w (handToHost b) = handedToHost w b (w .toHost)
-    ownStep w (keepToHost b) = keptToHost w b (w .toHost)
-    ownStep w dropToHost = droppedToHost w (w .toHost)
+    ownStep w (handToMachine b) = onFirst w (w .toMachine) (λ f q. machineTurn w q (ends .machineFrame (w .machine) f b))
+    ownStep w (keepToMachine b) = onFirst w (w .toMachine) (λ f q. machineTurn w (f ∷ q) (ends .machineFrame (w .machine) f b))
+    ownStep w dropToMachine = onFirst w (w .toMachine) (λ f q. withToMachine w q)
+    ownStep w (handToHost b) = onFirst w (w .toHost) (λ f q. hostTurn w q (ends .hostFrame (w .host) f b))
+    ownStep w (keepToHost b) = onFirst w (w .toHost) (λ f q. hostTurn w (f ∷ q) (ends .hostFrame (w .host) f b))
+    ownStep w dropToHost = onFirst w (w .toHost) (λ f q. withToHost w q)
     ownStep w (hostTimer b) = hostTurn w (w .toHost) (ends .hostTimer (w .host) b)
     ownStep w (machineTimer b) = machineTurn w (w .toMachine) (ends .machineTimer (w .machine) b)
 

@@ -2,12 +2,32 @@
 use Prim.Native.Nat.{ℕ}
 use mathlib.Core.Path.{_≡_, refl}
 use mathlib.Core.List.{List, [], _∷_}
-use Rattle.link.specs.Link.{Frame, Turn, refuses, acts, World, Ends, Own, Event, own, further, handToMachine, keepToMachine, dropToMachine, handToHost, keepToHost, dropToHost, hostTimer, machineTimer, machineTurn, hostTurn, withToMachine, withToHost, handedToMachine, keptToMachine, droppedToMachine, handedToHost, keptToHost, droppedToHost, ownStep, step, run}
+use Rattle.link.specs.Link.{Frame, Turn, refuses, acts, World, Ends, Own, Event, own, further, handToMachine, keepToMachine, dropToMachine, handToHost, keepToHost, dropToHost, hostTimer, machineTimer, machineTurn, hostTurn, withToMachine, withToHost, onFirst, ownStep, step, run}
 
 -- A queue, and what is left of it when one frame is lost, from anywhere in it.
 pub data Lost : List Frame → List Frame → Type 0 where
   here : {f : Frame} {q : List Frame} → Lost (f ∷ q) q
   there : {f : Frame} {q r : List Frame} → Lost q r → Lost (f ∷ q) (f ∷ r)
+
+module _ {H M X : Type 0} (ends : Ends H M X) where
+  -- what the events on a queue make of this one
+  abbrev pub handedToMachine : World H M → List ℕ → List Frame → World H M
+  handedToMachine w b q = onFirst w q (λ f rest. machineTurn w rest (ends .machineFrame (w .machine) f b))
+
+  abbrev pub keptToMachine : World H M → List ℕ → List Frame → World H M
+  keptToMachine w b q = onFirst w q (λ f rest. machineTurn w (f ∷ rest) (ends .machineFrame (w .machine) f b))
+
+  abbrev pub droppedToMachine : World H M → List Frame → World H M
+  droppedToMachine w q = onFirst w q (λ f rest. withToMachine w rest)
+
+  abbrev pub handedToHost : World H M → List ℕ → List Frame → World H M
+  handedToHost w b q = onFirst w q (λ f rest. hostTurn w rest (ends .hostFrame (w .host) f b))
+
+  abbrev pub keptToHost : World H M → List ℕ → List Frame → World H M
+  keptToHost w b q = onFirst w q (λ f rest. hostTurn w (f ∷ rest) (ends .hostFrame (w .host) f b))
+
+  abbrev pub droppedToHost : World H M → List Frame → World H M
+  droppedToHost w q = onFirst w q (λ f rest. withToHost w rest)
 
 module _ {H M X : Type 0} (ends : Ends H M X) where
   -- What an invariant must withstand of the link's own events: a frame handed over and kept, a frame lost, a timer, at either end.

@@ -1,7 +1,6 @@
 -- The machine's end of the link: its state and its memory.
 use Prim.Native.Nat.{ℕ}
 use mathlib.Core.List.{List, []}
-use Rattle.step.specs.Step.{Outcome}
 use Rattle.machine_next.specs.declared.Machine.{Machine}
 use Rattle.machine_next.specs.declared.Settings.{Settings}
 use Rattle.machine_next.specs.Next.{onTimer}
@@ -16,18 +15,14 @@ pub record End : Type 0 where
 abbrev pub machineEnd : Machine → List ℕ → End
 machineEnd m memory = record { machine = m; memory = memory }
 
--- a call as the link sees it
-abbrev pub machineTurned : Outcome Machine (List ℕ) → Turn End
-machineTurned = turned machineEnd
-
 -- the calls of the machine, as the code promises them, beside any host and any further events
 abbrev pub endsWith : {H X : Type 0} → Settings → (H → Frame → List ℕ → Turn H) → (H → List ℕ → Turn H) → (World H End → X → World H End) → Ends H End X
 endsWith ms frame timer more =
     record {
       hostFrame = frame;
       hostTimer = timer;
-      machineFrame = λ e f b. machineTurned (machineFrame ms (e .machine) f (e .memory) b);
-      machineTimer = λ e b. machineTurned (machineTimer ms (e .machine) (e .memory) b);
+      machineFrame = λ e f b. turned machineEnd (machineFrame ms (e .machine) f (e .memory) b);
+      machineTimer = λ e b. turned machineEnd (machineTimer ms (e .machine) (e .memory) b);
       further = more;
     }
 

@@ -13,10 +13,10 @@ use Rattle.machine_next.specs.declared.Settings.{Settings}
 use Rattle.machine_next.specs.Next.{refusal, react, onTimer}
 use Rattle.machine_timer.specs.Timer.{machineTimer}
 use Rattle.machine.specs.Machine.{machineFrame}
-use Rattle.link.specs.Link.{Frame, Turn, refuses, acts, turn, queued}
+use Rattle.link.specs.Link.{Frame, Turn, refuses, acts, turn, turned, queued}
 use Rattle.link.specs.CallLaws as call
 use Rattle.link.specs.CallLaws.{called}
-use Rattle.link.specs.MachineEnd.{End, machineEnd, machineTurned}
+use Rattle.link.specs.MachineEnd.{End, machineEnd}
 
 -- what it does
 abbrev pub MachineAct : Type 0
@@ -27,17 +27,17 @@ abbrev pub Becomes : Turn End → MachineAct → Type 0
 Becomes = call.Becomes machineEnd
 
 module _ (ms : Settings) (m : Machine) (memory b : List ℕ) where
-  pub on-frame : (f : Frame) → Becomes (machineTurned (machineFrame ms m f memory b)) (react ms m (fields f) f memory)
+  pub on-frame : (f : Frame) → Becomes (turned machineEnd (machineFrame ms m f memory b)) (react ms m (fields f) f memory)
   on-frame f = called machineEnd (first (refusal ms m (length memory) (length b) ∷ fields f .refusal ∷ [])) m memory b (react ms m (fields f) f memory)
 
-  pub on-timer : Becomes (machineTurned (machineTimer ms m memory b)) (onTimer ms m memory)
+  pub on-timer : Becomes (turned machineEnd (machineTimer ms m memory b)) (onTimer ms m memory)
   on-timer = called machineEnd (refusal ms m (length memory) (length b)) m memory b (onTimer ms m memory)
 
-  pub frame-unrefused : (f : Frame) → refusal ms m (length memory) (length b) ≡ 0 → fields f .refusal ≡ 0 → machineTurned (machineFrame ms m f memory b) ≡ refuses → ⊥
+  pub frame-unrefused : (f : Frame) → refusal ms m (length memory) (length b) ≡ 0 → fields f .refusal ≡ 0 → turned machineEnd (machineFrame ms m f memory b) ≡ refuses → ⊥
   frame-unrefused f r e =
       call.frame-unrefused machineEnd (refusal ms m (length memory) (length b)) f m memory b (λ (x : Fields). react ms m x f memory) r e
 
-  pub timer-unrefused : refusal ms m (length memory) (length b) ≡ 0 → machineTurned (machineTimer ms m memory b) ≡ refuses → ⊥
+  pub timer-unrefused : refusal ms m (length memory) (length b) ≡ 0 → turned machineEnd (machineTimer ms m memory b) ≡ refuses → ⊥
   timer-unrefused r = call.unrefused machineEnd (refusal ms m (length memory) (length b)) m memory b (onTimer ms m memory) r
 
 -- what one machine is not refused with 1,500 bytes is refused to none with as many

@@ -27,9 +27,9 @@ use Rattle.link.specs.ByteLaws.{same-byte}
 use Rattle.link.specs.Unrefused.{Unrefused}
 use Rattle.link.specs.MachineEnd.{End}
 use Rattle.link.specs.MachineEndLaws.{frame-unrefused, timer-unrefused, as-accepted}
-use Rattle.link_dump.specs.Model.{Host, hostEnd, dumpEnds, freshWorld, after, filledWith, Copied, Dumped}
+use Rattle.link_dump.specs.Model.{Host, hostEnd, dumpEnds, freshWorld, after, Copied, Dumped}
 use Rattle.link_dump.specs.FilledLaws as filled
-use Rattle.link_dump.specs.FilledLaws.{past-filled, filled-whole}
+use Rattle.link_dump.specs.FilledLaws.{filledWith, past-filled, filled-whole}
 use Rattle.link_dump.specs.HostLaws.{heard, timed}
 use Rattle.link_dump.specs.AloneLaws as alone
 use Rattle.link_dump.specs.AloneLaws.{Good, alone-dump, fresh, bound}

@@ -10,7 +10,11 @@ use Rattle.buffer.specs.Lay.{over}
 use Rattle.memory.specs.Memory.{bytesFrom}
 use Rattle.memory.specs.Laws.{length-bytesFrom, getD-bytesFrom, bytesFrom-joined}
 use Rattle.link.specs.ByteLaws.{is-there}
-use Rattle.link_dump.specs.Model.{filledWith, Copied}
+use Rattle.link_dump.specs.Model.{Copied}
+
+-- a buffer whose first n bytes are memory from an address on, 0 beyond memory's end, and whose rest is as it was
+abbrev pub filledWith : List ℕ → ℕ → ℕ → List ℕ → List ℕ
+filledWith memory a n buffer = bytesFrom memory a n ++ drop n buffer
 
 -- byte k of two lists on end, where it is one of the second
 behind : (xs ys : List ℕ) (k : ℕ) → length xs ≤ k → getD (xs ++ ys) k 0 ≡ getD ys (k - length xs) 0

@@ -23,9 +23,9 @@ use Rattle.dump_next.specs.Next as next
 use Rattle.dump_timer.specs.Timer.{onTimer}
 use Rattle.dump_checks.specs.Checks as dumpChecks
 use Rattle.dump.specs.Dump as dump
-use Rattle.link.specs.Link.{Frame, Turn, refuses, acts, queued}
+use Rattle.link.specs.Link.{Frame, Turn, refuses, acts, turned, queued}
 use Rattle.link.specs.CallLaws.{called, came}
-use Rattle.link_dump.specs.Model.{Host, hostEnd, hostTurned}
+use Rattle.link_dump.specs.Model.{Host, hostEnd}
 
 -- The numbers of a record: waiting, bytes filled, replies taken, repeats, verdict, frames sent; and the dump buffer.
 pub record Now (h : Host) (w f n k v t : ℕ) (buffer : List ℕ) : Type 0 where
@@ -137,7 +137,7 @@ module _ (s : Settings) (h : Host) where
         by-cases OnFrame (eqb (fields f .code) 12) (λ _. on-offer (eqb-true _ _ v)) (λ _.
         by-cases OnFrame (eqb (fields f .code) 14) (λ c. on-data (eqb-true _ _ c) (eqb-true _ _ v) (fields f .«data_length») (length-part f)) (λ _. same))) (λ _. same)
 
-    pub heard : (b : List ℕ) → Heard s h f (hostTurned (dump.dumpFrame s r f (h .buffer) b))
+    pub heard : (b : List ℕ) → Heard s h f (turned hostEnd (dump.dumpFrame s r f (h .buffer) b))
     heard b =
         came (Heard s h f) _ _ _
         (called hostEnd (first (dumpChecks.refusal s r (length (h .buffer)) (length b) ∷ fields f .refusal ∷ [])) r (h .buffer) b (dump.onFrame s r f (h .buffer) (fields f)))
@@ -157,7 +157,7 @@ module _ (s : Settings) (h : Host) where
       by-cases OnTimer (ltb (r .repeats) (s .repeats)) (λ k. repeats _ z (ltb-true _ _ k) (now _ (z .0) (z .1) (add-zero _) refl))
       (λ k. givesUp _ z (ltb-false _ _ k) (now _ (z .0) refl (add-zero _) refl))) (λ _. idle)) (λ _. idle)
 
-  pub timed : (b : List ℕ) → Timed s h (hostTurned (dump.dumpTimer s r (h .buffer) b))
+  pub timed : (b : List ℕ) → Timed s h (turned hostEnd (dump.dumpTimer s r (h .buffer) b))
   timed b =
       came (Timed s h) _ _ _ (called hostEnd (dumpChecks.refusal s r (length (h .buffer)) (length b)) r (h .buffer) b (dump.does s (onTimer s r) (h .buffer)))
       refused on-timer

@@ -30,8 +30,8 @@ use Rattle.link.specs.EachLaws.{Returns, Holds}
 use Rattle.link.specs.CallLaws.{came}
 use Rattle.link.specs.MachineEnd.{End, machineEnd}
 use Rattle.link.specs.MachineEndLaws.{MachineAct, Becomes, on-frame, on-timer}
-use Rattle.link_dump.specs.Model.{Host, dumpEnds, freshWorld, filledWith}
-use Rattle.link_dump.specs.FilledLaws.{laid-next}
+use Rattle.link_dump.specs.Model.{Host, dumpEnds, freshWorld}
+use Rattle.link_dump.specs.FilledLaws.{filledWith, laid-next}
 use Rattle.link_dump.specs.HostLaws.{Now, Data, missing, ask, Reply, Heard, refused, ignored, begins, asks, finishes, Timed, repeats, givesUp, heard, timed}
 use Rattle.link_dump.specs.AloneLaws as alone
 use Rattle.link_dump.specs.AloneLaws.{Good, Kept, fresh}

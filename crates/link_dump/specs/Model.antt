@@ -6,7 +6,6 @@ use mathlib.Core.List.{List, _++_}
 use mathlib.Core.Option.{some}
 use lib.ListN.{length, drop, getElem?}
 use Rattle.memory.specs.Memory.{bytesFrom}
-use Rattle.step.specs.Step.{Outcome}
 use Rattle.machine_next.specs.declared.Settings.{Settings as MachineSettings}
 use Rattle.machine_next.specs.Next.{offering}
 use Rattle.dump_record.specs.declared.Session.{Session}
@@ -14,7 +13,7 @@ use Rattle.dump_record.specs.declared.Settings.{Settings as DumpSettings}
 use Rattle.dump_record.specs.Record.{fresh}
 use Rattle.dump_checks.specs.Checks as dumpChecks
 use Rattle.dump.specs.Dump as dump
-use Rattle.link.specs.Link.{Turn, turned, Ends, World, Event, run}
+use Rattle.link.specs.Link.{turned, Ends, World, Event, run}
 use Rattle.link.specs.MachineEnd.{End, endsWith, freshWith}
 
 -- The host end: its record and its dump buffer.
@@ -25,13 +24,10 @@ pub record Host : Type 0 where
 abbrev pub hostEnd : Session → List ℕ → Host
 hostEnd h buffer = record { session = h; buffer = buffer }
 
-abbrev pub hostTurned : Outcome Session (List ℕ) → Turn Host
-hostTurned = turned hostEnd
-
 -- the calls of both ends, as the code promises them; there are no further events
 abbrev pub dumpEnds : DumpSettings → MachineSettings → Ends Host End ⊥
 dumpEnds s ms =
-    endsWith ms (λ h f b. hostTurned (dump.dumpFrame s (h .session) f (h .buffer) b)) (λ h b. hostTurned (dump.dumpTimer s (h .session) (h .buffer) b))
+    endsWith ms (λ h f b. turned hostEnd (dump.dumpFrame s (h .session) f (h .buffer) b)) (λ h b. turned hostEnd (dump.dumpTimer s (h .session) (h .buffer) b))
     (λ w x. absurd x)
 
 -- fresh ends: a waiting host, all numbers 0, and an Offering machine whose first frame, the one that a timer gives, is the only one queued
@@ -42,10 +38,6 @@ freshWorld ms memory buffer = freshWith ms (hostEnd fresh buffer) offering memor
 abbrev pub after : DumpSettings → MachineSettings → List ℕ → List ℕ → List (Event ⊥) → World Host End
 after s ms memory buffer es = run (dumpEnds s ms) (freshWorld ms memory buffer) es
 
--- a buffer whose first n bytes are memory from an address on, 0 beyond memory's end, and whose rest is as it was
-abbrev pub filledWith : List ℕ → ℕ → ℕ → List ℕ → List ℕ
-filledWith memory a n buffer = bytesFrom memory a n ++ drop n buffer
-
 -- Byte k of a buffer is memory's at address a + k: the byte that stands there, or 0 if that is beyond memory's end.
 -- `getElem? xs k` is byte k of xs, counted from 0, and none beyond the end of xs.
 pub record Copied (memory : List ℕ) (a : ℕ) (buffer : List ℕ) (k : ℕ) : Type 0 where
@@ -55,7 +47,8 @@ pub record Copied (memory : List ℕ) (a : ℕ) (buffer : List ℕ) (k : ℕ) : 
 -- What is claimed of a world: `memory` and `buffer` are the old ones.
 pub record Dumped (s : DumpSettings) (memory buffer : List ℕ) (w : World Host End) : Type 0 where
   pub memory-is : w .machine .memory ≡ memory
-  pub buffer-is : w .host .buffer ≡ filledWith memory (s .address) (w .host .session .filled) buffer
+  -- the first bytes of the dump buffer are memory from an address on, 0 beyond memory's end, and the rest is as it was
+  pub buffer-is : w .host .buffer ≡ bytesFrom memory (s .address) (w .host .session .filled) ++ drop (w .host .session .filled) buffer
   pub size : length (w .host .buffer) ≡ length buffer
   -- all L bytes are filled if the verdict is 1, finished, and only then
   pub filled : w .host .session .filled ≤ s .length

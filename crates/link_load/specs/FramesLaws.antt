@@ -17,9 +17,9 @@ use Rattle.machine_next.specs.declared.Settings.{Settings}
 use Rattle.machine_next.specs.Next.{requesting, loading, after, byNumber, takenAs, asksLoad, onTimer}
 use Rattle.machine_timer.specs.Timer.{machineTimer}
 use Rattle.machine.specs.Machine.{machineFrame}
-use Rattle.link.specs.Link.{Frame, Turn, World}
+use Rattle.link.specs.Link.{Frame, Turn, turned, World}
 use Rattle.link.specs.NumberedLaws.{Transfer, Receiver}
-use Rattle.link.specs.MachineEnd.{End, machineTurned, endsWith}
+use Rattle.link.specs.MachineEnd.{End, machineEnd, endsWith}
 use Rattle.link.specs.MachineEndLaws.{MachineAct, Becomes, on-timer}
 
 -- How many frames; the length of memory; each one's message, whether it fits, and the memory with it laid over; the machine after the last.
@@ -38,7 +38,7 @@ pub record Frames (ms : Settings) : Type 0 where
   pub twice : (i : ℕ) (memory : List ℕ) → i + 1 < many → fit i ≡ true → length memory ≡ size → lays i (lays i memory) ≡ lays i memory
   -- the machine takes frame i by the number rule
   pub reacts : (i : ℕ) (m : Machine) (memory b : List ℕ) → i < many → length memory ≡ size
-      → Becomes (machineTurned (machineFrame ms m (layout (what i)) memory b))
+      → Becomes (turned machineEnd (machineFrame ms m (layout (what i)) memory b))
       (byNumber m (i % 256) (takenAs (i % 256) (fit i) (pick (eqb (i + 1) many) done (loading (after (i % 256)) 0)) (lays i memory) memory) memory)
 
 module _ {ms : Settings} (fr : Frames ms) (old : List ℕ) where
@@ -149,7 +149,7 @@ module _ {ms : Settings} (fr : Frames ms) (old : List ℕ) where
     passes k taken e = rw (ne-eqb (k % 256) 0 e)
 
     -- ---- timers: only a Requesting machine sends
-    asks : (b : List ℕ) → Becomes (machineTurned (machineTimer ms (machineAt 0) (laid 0) b)) (acts (machineAt 0) (laid 0) (sends (said 0)))
+    asks : (b : List ℕ) → Becomes (turned machineEnd (machineTimer ms (machineAt 0) (laid 0) b)) (acts (machineAt 0) (laid 0) (sends (said 0)))
     unfolding machineAt
     asks b = on-timer ms (machineAt 0) (laid 0) b
 
@@ -168,7 +168,7 @@ module _ {ms : Settings} (fr : Frames ms) (old : List ℕ) where
         go true false = refl
         go false e = refl
 
-    rests : (k : ℕ) (b : List ℕ) → Becomes (machineTurned (machineTimer ms (machineAt (suc k)) (laid (suc k)) b)) (acts (machineAt (suc k)) (laid (suc k)) nothing)
+    rests : (k : ℕ) (b : List ℕ) → Becomes (turned machineEnd (machineTimer ms (machineAt (suc k)) (laid (suc k)) b)) (acts (machineAt (suc k)) (laid (suc k)) nothing)
     rests k b = subst (Becomes _) (quiet k (laid (suc k))) (on-timer ms (machineAt (suc k)) (laid (suc k)) b)
 
     -- ---- the machine as a receiver, beside any host and any further events
@@ -176,7 +176,7 @@ module _ {ms : Settings} (fr : Frames ms) (old : List ℕ) where
         {H X : Type 0} (frame : H → Frame → List ℕ → Turn H) (timer : H → List ℕ → Turn H) (more : World H End → X → World H End)
         (Stage : ℕ → H → Type 0) where
       at : (k i : ℕ) (b : List ℕ) {a : MachineAct} → k ≤ fr .many → i < fr .many → byNumber (machineAt k) (i % 256) (takes i (laid k)) (laid k) ≡ a
-          → Becomes (machineTurned (machineFrame ms (machineAt k) (layout (fr .what i)) (laid k) b)) a
+          → Becomes (turned machineEnd (machineFrame ms (machineAt k) (layout (fr .what i)) (laid k) b)) a
       at k i b l n e = subst (Becomes _) e (fr .reacts i (machineAt k) (laid k) b n (length-laid k l))
 
       pub receiver : Receiver (transfer Stage) (endsWith ms frame timer more)

@@ -20,9 +20,9 @@ use Rattle.load_next.specs.declared.Settings.{Settings}
 use Rattle.load_next.specs.declared.Next.{Next}
 use Rattle.load_next.specs.Next as next
 use Rattle.load.specs.Load as load
-use Rattle.link.specs.Link.{Frame, Turn, refuses, acts, queued}
+use Rattle.link.specs.Link.{Frame, Turn, refuses, acts, turned, queued}
 use Rattle.link.specs.CallLaws.{called, came}
-use Rattle.link_load.specs.Model.{hostEnd, hostTurned}
+use Rattle.link_load.specs.Model.{hostEnd}
 
 -- The numbers of a record: waiting, position, repeats, verdict, frames sent.
 pub record Now (h : Session) (w c k v t : ℕ) : Type 0 where
@@ -117,7 +117,7 @@ module _ (s : Settings) (file : List ℕ) where
           by-cases OnFrame (eqb (fields f .code) 8) (λ _. on-request (eqb-true _ _ v)) (λ _.
           by-cases OnFrame (eqb (fields f .code) 10) (λ c. on-answer (eqb-true _ _ c) (eqb-true _ _ v)) (λ _. same))) (λ _. same)
 
-      pub heard : (b : List ℕ) → Heard N (s .repeats) F h f (hostTurned (load.loadFrame s h file f b))
+      pub heard : (b : List ℕ) → Heard N (s .repeats) F h f (turned hostEnd (load.loadFrame s h file f b))
       heard b =
           came (Heard N (s .repeats) F h f) _ _ _
           (called hostEnd (first (load.refusal s h file b ∷ fields f .refusal ∷ [])) h tt b (load.does file (s .«segment_size») (next.react N h (fields f)))) refused on-fields
@@ -140,7 +140,7 @@ module _ (s : Settings) (file : List ℕ) where
         by-cases OnTimer (ltb (h .repeats) (s .repeats)) (λ r. repeats _ z (ltb-true _ _ r) (now _ (z .0) (z .1)))
         (λ r. ends z (ltb-false _ _ r) (next.more N h) refl)) (λ _. idle)) (λ _. idle)
 
-    pub timed : (b : List ℕ) → Timed N (s .repeats) F h (hostTurned (load.loadTimer s h file b))
+    pub timed : (b : List ℕ) → Timed N (s .repeats) F h (turned hostEnd (load.loadTimer s h file b))
     timed b =
         came (Timed N (s .repeats) F h) _ _ _
         (called hostEnd (load.refusal s h file b) h tt b (load.does file (s .«segment_size») (next.onTimer N (s .repeats) h))) refused on-timer

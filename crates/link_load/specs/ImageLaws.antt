@@ -23,7 +23,8 @@ use Rattle.machine_next.specs.declared.Settings.{Settings}
 use Rattle.machine_next.specs.Next.{loading, started, after, byNumber, takenAs, onLoad, react}
 use Rattle.machine.specs.Machine.{machineFrame}
 use Rattle.load.specs.Load.{segmentMessage}
-use Rattle.link.specs.MachineEnd.{machineTurned}
+use Rattle.link.specs.Link.{turned}
+use Rattle.link.specs.MachineEnd.{machineEnd}
 use Rattle.link.specs.MachineEndLaws.{MachineAct, Becomes, on-frame}
 use Rattle.link_load.specs.FramesLaws.{Frames}
 
@@ -93,7 +94,7 @@ module _ (S : ℕ) (ms : Settings) (file : List ℕ) (size : ℕ) (ok : cutRefus
   sized i m memory e = rw e
 
   pub takes-segment : (i : ℕ) (m : Machine) (memory b : List ℕ) → i < N → length memory ≡ size
-      → Becomes (machineTurned (machineFrame ms m (layout (segmentMessage file S i)) memory b)) (taken i m memory)
+      → Becomes (turned machineEnd (machineFrame ms m (layout (segmentMessage file S i)) memory b)) (taken i m memory)
   takes-segment i m memory b l e = subst (Becomes _) (react-segment i m memory l ∙ sized i m memory e) (on-frame ms m memory b (layout (segmentMessage file S i)))
 
   -- a segment that fits lies within memory

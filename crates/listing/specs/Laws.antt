@@ -14,7 +14,7 @@ use Rattle.octets.specs.TestLaws.{by-cases}
 use Rattle.buffer.specs.declared.Written.{Written}
 use Rattle.buffer.specs.Lay.{Came}
 use Rattle.message.specs.declared.Fields.{Fields}
-use Rattle.message.specs.Read.{byte, refusedFields, shortest, longest, Row, rows, find, frame, fields}
+use Rattle.message.specs.Read.{byte, refusedFields, Row, rows, find, frame, fields}
 use Rattle.message.specs.Laws.{Each, by-find}
 use Rattle.text.specs.Text.{chars, placed}
 use Rattle.text.specs.Laws.{by-test}
@@ -64,9 +64,9 @@ beyond (some row) = 2
 fields-long : (s : List ℕ) → 1500 < length s → fields s ≡ refusedFields (beyond (find rows (byte s 0)))
 unfolding fields Each beyond
 fields-long s h =
-    rw (ne-eqb (length s) 0 (omega arith)) (by-find {R = λ (row : Row). (shortest (row .long) ≤ 1500) × (longest (row .long) ≤ 1500)}
+    rw (ne-eqb (length s) 0 (omega arith)) (by-find {R = λ (row : Row). (row .shortest ≤ 1500) × (row .longest ≤ 1500)}
     (λ (o : Option Row). frame s o ≡ refusedFields (beyond o)) rows (byte s 0) (omega arith) refl
-    (λ row _ l. rw (le-ltb (length s) (shortest (row .long)) (omega arith), lt-ltb (longest (row .long)) (length s) (omega arith))))
+    (λ row _ l. rw (le-ltb (length s) (row .shortest) (omega arith), lt-ltb (row .longest) (length s) (omega arith))))
 
 -- the text of a refused frame has nothing of its bytes
 text-refused : (s t : List ℕ) (f : Fields) → (f .refusal ≡ 0 → ⊥) → text s f ≡ text t f

@@ -3,7 +3,7 @@
 --     written-read    writing the fields of an accepted frame yields that frame, byte for byte
 use Prim.Native.Nat.{ℕ, suc, _+_, _-_, _^_, _<_, _≤_}
 use mathlib.Core.Path.{_≡_, refl, ap, sym, _∙_, subst}
-use mathlib.Core.Bool.{Bool, true, false, _&&_}
+use mathlib.Core.Bool.{Bool, true, false, _&&_, cond}
 use mathlib.Core.List.{List, [], _∷_, _++_, append-assoc, append-nil}
 use mathlib.Core.Option.{Option, none, some}
 use native.Mathlib.Omega.{arith}
@@ -13,7 +13,7 @@ use lib.ListN.{length, take, drop, length-append, length-take, length-drop, take
 use lib.Seq.{drop-cons, drop-drop, drop-at, take-at, getD-at, take-all, take-length}
 use lib.Dec.{eqb, ltb}
 use borrow.Author.Tests.{eq-eqb, ne-eqb, lt-ltb, le-ltb, eqb-true, eqb-false, ltb-false, ltb-true}
-use Rattle.octets.specs.Number.{number, low, Octets}
+use Rattle.octets.specs.Number.{word, low, Octets}
 use Rattle.octets.specs.NumberLaws.{octets-part, length-low, part-bound, number-low, low-number}
 use Rattle.buffer.specs.declared.Written.{Written}
 use Rattle.octets.specs.TestLaws.{by-cases, both}
@@ -23,31 +23,59 @@ use Rattle.entries_next.specs.declared.Place.the-variants.{Kind, Size, Value, T
 use Rattle.entries.specs.Entries.{walk}
 use Rattle.entries.specs.Laws.{walk-ended, accepted}
 use Rattle.message.specs.Message.{Message, memoryLoadTransfer, memoryLoad, requestProgram, requestLoad, requestDump, requestDumpService, dumpData, dumpComplete, volunteer, parameters, loopData, loopedData, programListed, formListed, idLength}
-use Rattle.message.specs.Read.{byte, word, lastWord, columns, memoryLoadTransferFields, memoryLoadFields, idFields, withId, requestProgramFields, requestLoadFields, requestDumpFields, requestDumpServiceFields, dumpDataFields, codeFields, refusedFields, ended, entriesFields, parametersFields, loopFields, shortest, longest, Row, rows, find, frame, fields, Reading, refused, message, stated, said, read}
+use Rattle.message.specs.Read.{byte, lastWord, numbers, refusedFields, programRefusal, ended, inTurn, Row, row, rows, find, judged, frame, fields, Reading, refused, message, stated, said, read}
 use Rattle.message.specs.declared.Fields.{Fields}
-use Rattle.message.specs.Write.{whole, idFits, Part, parts, joined, layout, listed, Sized, write, sent}
+use Rattle.message.specs.Write.{entryList, parts, joined, layout, listed, Sized, write, sent}
+
+-- The columns: refusal, code, number, error; device, format, program type, software form, processor, compatibility; count,
+-- receipt, address, transfer address, memory size; place and length of the variable part; place and length of the software id.
+abbrev pub columns : ℕ → ℕ → ℕ → ℕ → ℕ → ℕ → ℕ → ℕ → ℕ → ℕ → ℕ → ℕ → ℕ → ℕ → ℕ → ℕ → ℕ → ℕ → ℕ → Fields
+columns refusal code number error device format program form processor compatibility count receipt address transfer memorySize dataAt dataLength idAt idLength =
+    record {
+      «data_at» = dataAt;
+      «data_length» = dataLength;
+      «id_at» = idAt;
+      «id_length» = idLength;
+      address = address;
+      transfer = transfer;
+      «memory_size» = memorySize;
+      count = count;
+      receipt = receipt;
+      refusal = refusal;
+      code = code;
+      number = number;
+      error = error;
+      device = device;
+      format = format;
+      program = program;
+      form = form;
+      processor = processor;
+      compatibility = compatibility;
+    }
 
 -- no frame is empty: it begins with its code
-joined-head : (x : ℕ) (ps : List Part) → (byte (joined (x ∷ []) ps) 0 ≡ x) × (0 < length (joined (x ∷ []) ps))
-unfolding joined
-joined-head x [] = (refl, omega arith)
-joined-head x (p ∷ rest) = (refl, omega arith)
-
 pub begins : (m : Message) → 0 < length (layout m)
 unfolding layout
-begins m = joined-head (parts m .code) (parts m .rest) .1
-
-head : (m : Message) → byte (layout m) 0 ≡ parts m .code
-unfolding layout
-head m = joined-head (parts m .code) (parts m .rest) .0
+begins (memoryLoadTransfer n a d t) = omega arith
+begins (memoryLoad n a d) = omega arith
+begins (requestProgram d f p form id proc info) = omega arith
+begins (requestLoad n e) = omega arith
+begins (requestDump a n) = omega arith
+begins (requestDumpService d f m k info) = omega arith
+begins (dumpData a d) = omega arith
+begins dumpComplete = omega arith
+begins volunteer = omega arith
+begins (parameters n e t) = omega arith
+begins (loopData r d) = omega arith
+begins (loopedData r d) = omega arith
 
 -- a message of a listed code whose length is right is read by its row
-by-row : (m : Message) {row : Row} → find rows (parts m .code) ≡ some row → shortest (row .long) ≤ length (layout m) → length (layout m) ≤ longest (row .long)
-    → fields (layout m) ≡ row .fields (layout m)
+by-row : (m : Message) {row : Row} → find rows (byte (layout m) 0) ≡ some row → row .shortest ≤ length (layout m) → length (layout m) ≤ row .longest
+    → fields (layout m) ≡ judged (row .code) (row .dataAt) (row .shortest) (layout m)
 unfolding fields
 by-row m {row} e l h =
     let s = layout m in
-    rw (ne-eqb (length s) 0 (omega (arith, begins m)), head m, e, le-ltb (length s) (shortest (row .long)) l, le-ltb (longest (row .long)) (length s) h)
+    rw (ne-eqb (length s) 0 (omega (arith, begins m)), e, le-ltb (length s) (row .shortest) l, le-ltb (row .longest) (length s) h)
 
 -- a frame whose numbers are known is read as the message that they state
 read-as : (s : List ℕ) {f : Fields} → fields s ≡ f → read s ≡ said s f
@@ -69,9 +97,10 @@ last-word front x h =
     rw (n, drop-at front (low 4 x) (length front) refl, take-all 4 (low 4 x) (simp length-low (omega arith))) (number-low 4 x h)
 
 with-id-written : (d f p form : ℕ) (id : List ℕ) (proc : ℕ) (info : List ℕ)
-    → said (layout (requestProgram d f p form id proc info)) (withId (length id) (layout (requestProgram d f p form id proc info))) ≡ message (requestProgram d f p form id proc info)
+    → programListed p ≡ true → formListed form ≡ true → idLength form ≡ length id
+    → said (layout (requestProgram d f p form id proc info)) (judged 8 6 6 (layout (requestProgram d f p form id proc info))) ≡ message (requestProgram d f p form id proc info)
 unfolding layout find
-with-id-written d f p form id proc info =
+with-id-written d f p form id proc info lp lf li =
     let n = length id in
     let front : List ℕ = 8 ∷ d ∷ f ∷ p ∷ form ∷ id in
     let at : length front ≡ 5 + n = omega arith in
@@ -80,10 +109,10 @@ with-id-written d f p form id proc info =
     sym (drop-drop 1 (5 + n) (front ++ (proc ∷ info))) ∙ ap (drop 1) (drop-at front (proc ∷ info) (5 + n) at) in
     let long : 6 + n ≤ length (front ++ (proc ∷ info)) = simp length-append (omega arith) in
     let size : length (front ++ (proc ∷ info)) - (5 + n + 1) ≡ length info = simp length-append (omega arith) in
-    rw (le-ltb (length (front ++ (proc ∷ info))) (6 + n) long, take-at id (proc ∷ info) n refl, getD-at front proc info 0 (5 + n) at, next, behind, size, take-length info)
+    rw (lp, lf, li, le-ltb (length (front ++ (proc ∷ info))) (6 + n) long, take-at id (proc ∷ info) n refl, getD-at front proc info 0 (5 + n) at, next, behind, size, take-length info)
 
 parameters-written : (n : ℕ) (e : List ℕ) (t : ℕ) → walk Kind e ≡ Kind → t < 256 ^ 4
-    → said (layout (parameters n e t)) (parametersFields (layout (parameters n e t))) ≡ message (parameters n e t)
+    → said (layout (parameters n e t)) (judged 20 2 7 (layout (parameters n e t))) ≡ message (parameters n e t)
 unfolding layout low find
 parameters-written n e t k h =
     let size : length (layout (parameters n e t)) - 7 ≡ length e = simp length-append (omega arith) in
@@ -91,14 +120,25 @@ parameters-written n e t k h =
     let last : lastWord (layout (parameters n e t)) ≡ t = ap (λ (l : List ℕ). lastWord l) split ∙ last-word (20 ∷ n ∷ (e ++ (0 ∷ []))) t h in
     rw (walk-ended e (low 4 t) k (length-low 4 t), last, size, take-at e (0 ∷ low 4 t) (length e) refl)
 
-whole-kind : (p : Place) → whole p ≡ true → p ≡ Kind
-whole-kind Kind e = refl
-whole-kind (Size kind) e = let z : _≡_ {A = ℕ} 0 1 = cc in absurd (omega arith)
-whole-kind (Value n) e = let z : _≡_ {A = ℕ} 0 1 = cc in absurd (omega arith)
-whole-kind (Time k before) e = let z : _≡_ {A = ℕ} 0 1 = cc in absurd (omega arith)
-whole-kind (Transfer n) e = let z : _≡_ {A = ℕ} 0 1 = cc in absurd (omega arith)
-whole-kind Outside e = let z : _≡_ {A = ℕ} 0 1 = cc in absurd (omega arith)
-whole-kind Excess e = let z : _≡_ {A = ℕ} 0 1 = cc in absurd (omega arith)
+accepted-end : (p : Place) → ended p ≡ 0 → p ≡ Transfer 0
+accepted-end Kind e = absurd (omega arith)
+accepted-end (Size kind) e = absurd (omega arith)
+accepted-end (Value n) e = absurd (omega arith)
+accepted-end (Time k before) e = absurd (omega arith)
+accepted-end (Transfer n) e = ap Transfer (by-cases (λ (x : ℕ). x ≡ 0 → n ≡ 0) (eqb n 0) (λ b _. eqb-true n 0 b) (λ b x. absurd (omega arith)) e)
+accepted-end Outside e = absurd (omega arith)
+accepted-end Excess e = absurd (omega arith)
+
+-- entries are listed if the walk over them ends where an entry's type would stand next, and only then
+pub whole-listed : (e : List ℕ) → walk Kind e ≡ Kind → entryList e .listed ≡ true
+whole-listed e k = rw (walk-ended e (0 ∷ 0 ∷ 0 ∷ 0 ∷ []) k refl)
+
+pub listed-whole : (e : List ℕ) → entryList e .listed ≡ true → walk Kind e ≡ Kind
+listed-whole e l =
+    let xs = e ++ (0 ∷ 0 ∷ 0 ∷ 0 ∷ 0 ∷ []) in
+    let a = accepted xs (accepted-end (walk Kind xs) (eqb-true (ended (walk Kind xs)) 0 l)) in
+    let size : length xs - 5 ≡ length e = simp length-append (omega arith) in
+    rw (size, take-at e (0 ∷ 0 ∷ 0 ∷ 0 ∷ 0 ∷ []) (length e) refl) at (a .entries)
 
 -- The numbers of the frames that pass between the ends, and their variable parts.
 pub load-transfer-fields : (n a : ℕ) (d : List ℕ) (t : ℕ) → a < 256 ^ 4 → t < 256 ^ 4 → length (layout (memoryLoadTransfer n a d t)) ≤ 1500
@@ -151,7 +191,7 @@ pub dump-data-part : (a : ℕ) (d : List ℕ) → take (length d) (drop 5 (layou
 unfolding layout low
 dump-data-part a d = take-length d
 
-pub dump-complete-fields : fields (layout dumpComplete) ≡ codeFields 1
+pub dump-complete-fields : fields (layout dumpComplete) ≡ columns 0 1 0 0 0 0 0 0 0 0 0 0 0 0 0 0 0 0 0
 unfolding layout find
 dump-complete-fields = by-row dumpComplete refl (omega arith) (omega arith)
 
@@ -167,11 +207,12 @@ read-written (memoryLoadTransfer n a d t) h l s =
     read-as (layout (memoryLoadTransfer n a d t)) (load-transfer-fields n a d t (z .0) (sized t 4 true (z .1) .0) s) ∙ (rw (load-transfer-part n a d t))
 read-written (memoryLoad n a d) h l s = read-as (layout (memoryLoad n a d)) (load-fields n a d (sized a 4 true h .0) s) ∙ (rw (load-part n a d))
 read-written (requestProgram d f p form id proc info) h l s =
-    let c = both (programListed p) (idFits form (length id) && true) l in
-    let e = both (formListed form) (eqb (length id) (idLength form)) (both (idFits form (length id)) true (c .1) .0) in
+    let fits = formListed form && eqb (length id) (idLength form) in
+    let c = both (programListed p) (fits && true) l in
+    let e = both (formListed form) (eqb (length id) (idLength form)) (both fits true (c .1) .0) in
     let n : idLength form ≡ length id = sym (eqb-true (length id) (idLength form) (e .1)) in
     read-as (layout (requestProgram d f p form id proc info)) (by-row (requestProgram d f p form id proc info) refl (simp length-append (omega arith)) s)
-    ∙ (rw (c .0, e .0, n) (with-id-written d f p form id proc info))
+    ∙ with-id-written d f p form id proc info (c .0) (e .0) n
 read-written (requestLoad n e) h l s = read-as (layout (requestLoad n e)) (request-load-fields n e)
 read-written (requestDump a n) h l s = read-as (layout (requestDump a n)) (let z = sized a 4 _ h in request-dump-fields a n (z .0) (sized n 2 true (z .1) .0))
 read-written (requestDumpService d f m k info) h l s =
@@ -181,7 +222,7 @@ read-written dumpComplete h l s = read-as (layout dumpComplete) dump-complete-fi
 read-written volunteer h l s = read-as (layout volunteer) (by-row volunteer refl (omega arith) (omega arith))
 read-written (parameters n e t) h l s =
     read-as (layout (parameters n e t)) (by-row (parameters n e t) refl (simp length-append (omega arith)) s)
-    ∙ parameters-written n e t (whole-kind (walk Kind e) (both (whole (walk Kind e)) true l .0)) (sized t 4 true h .0)
+    ∙ parameters-written n e t (listed-whole e (both (entryList e .listed) true l .0)) (sized t 4 true h .0)
 read-written (loopData r d) h l s =
     let size : length (layout (loopData r d)) - 3 ≡ length d = omega arith in
     read-as (layout (loopData r d)) (by-row (loopData r d) refl (omega arith) s) ∙ (rw (number-low 2 r (sized r 2 true h .0), size, take-length d))
@@ -215,15 +256,6 @@ Back s (message m) = (layout m ≡ s) × (listed m ≡ true) × Sized m
 Sound : List ℕ → Fields → Type 0
 Sound s f = (f .«data_at» + f .«data_length» ≤ length s) × (Octets s → Back s (said s f))
 
-accepted-end : (p : Place) → ended p ≡ 0 → p ≡ Transfer 0
-accepted-end Kind e = absurd (omega arith)
-accepted-end (Size kind) e = absurd (omega arith)
-accepted-end (Value n) e = absurd (omega arith)
-accepted-end (Time k before) e = absurd (omega arith)
-accepted-end (Transfer n) e = ap Transfer (by-cases (λ (x : ℕ). x ≡ 0 → n ≡ 0) (eqb n 0) (λ b _. eqb-true n 0 b) (λ b x. absurd (omega arith)) e)
-accepted-end Outside e = absurd (omega arith)
-accepted-end Excess e = absurd (omega arith)
-
 -- ---- the table of codes
 -- every row has something
 unfoldable pub Each : (Row → Type 0) → List Row → Type 0
@@ -244,14 +276,14 @@ by-find P (row ∷ rest) code e n f =
 
 -- what holds of every refusal, and of each row's numbers for a frame whose length is right, holds of every frame's numbers
 by-tests : (s : List ℕ) {R : Row → Type 0} (P : Fields → Type 0) → Each R rows → ((n : ℕ) → P (refusedFields (suc n)))
-    → ((row : Row) → byte s 0 ≡ row .code → shortest (row .long) ≤ length s → length s ≤ longest (row .long) → R row → P (row .fields s)) → P (fields s)
+    → ((row : Row) → byte s 0 ≡ row .code → row .shortest ≤ length s → length s ≤ row .longest → R row → P (judged (row .code) (row .dataAt) (row .shortest) s)) → P (fields s)
 unfolding fields
 by-tests s P each r f =
     by-cases P (eqb (length s) 0) (λ _. r 0) (λ _.
     by-find (λ (o : Option Row). P (frame s o)) rows (byte s 0) each (r 2) (λ row e h.
-    by-cases P (ltb (length s) (shortest (row .long))) (λ _. r 0) (λ l.
-    by-cases P (ltb (longest (row .long)) (length s)) (λ _. r 1) (λ m.
-    f row e (ltb-false (length s) (shortest (row .long)) l) (ltb-false (longest (row .long)) (length s) m) h))))
+    by-cases P (ltb (length s) (row .shortest)) (λ _. r 0) (λ l.
+    by-cases P (ltb (row .longest) (length s)) (λ _. r 1) (λ m.
+    f row e (ltb-false (length s) (row .shortest) l) (ltb-false (row .longest) (length s) m) h))))
 
 -- ---- what is read is written again
 module _ (s : List ℕ) where
@@ -266,7 +298,7 @@ module _ (s : List ℕ) where
   unfolding Sound
   sound-refused n = (omega arith, λ _. rw (ne-eqb (suc n) 0 (omega arith)) tt)
 
-  sound-memoryLoadTransfer : byte s 0 ≡ 0 → 10 ≤ length s → Sound s (memoryLoadTransferFields s)
+  sound-memoryLoadTransfer : byte s 0 ≡ 0 → 10 ≤ length s → Sound s (numbers 0 0 6 10 s)
   unfolding layout find Sound
   sound-memoryLoadTransfer e h =
       let front : 6 + (length s - 10) ≡ length s - 4 = omega arith in (
@@ -278,44 +310,46 @@ module _ (s : List ℕ) where
         ),
       )
 
-  sound-memoryLoad : byte s 0 ≡ 2 → 6 ≤ length s → Sound s (memoryLoadFields s)
+  sound-memoryLoad : byte s 0 ≡ 2 → 6 ≤ length s → Sound s (numbers 0 2 6 6 s)
   unfolding layout find Sound
   sound-memoryLoad e h =
       (omega arith, λ o. ((rw (rest s 6, on-word 4 s 2 o (omega arith), on-byte s 1 (omega arith)) (headed 2 e (omega arith))), refl, rw (fits o 4 2)))
 
-  sound-id : (n : ℕ) → byte s 0 ≡ 8 → 6 + n ≤ length s → programListed (byte s 3) ≡ true → formListed (byte s 4) ≡ true → n ≡ idLength (byte s 4)
-      → Sound s (idFields n s)
+  sound-id : byte s 0 ≡ 8 → 6 + idLength (byte s 4) ≤ length s → programListed (byte s 3) ≡ true → formListed (byte s 4) ≡ true
+      → Sound s (numbers 0 8 6 6 s)
   unfolding layout find Sound
-  sound-id n e l p f q =
+  sound-id e l p f =
+      let n = idLength (byte s 4) in
       let next : 6 + n ≡ 5 + n + 1 = omega arith in
       let size : length (take n (drop 5 s)) ≡ n = simp (length-take, length-drop) (omega arith) in (
         omega arith,
         λ o. (
           (rw (rest s (6 + n), next, on-byte s (5 + n) (omega arith), on-part s 5 n, on-byte s 4 (omega arith), on-byte s 3 (omega arith), on-byte s 2 (omega arith), on-byte s 1 (omega arith)) (headed 8 e (omega arith))),
-          rw (p, f, size, eq-eqb n (idLength (byte s 4)) q),
+          rw (p, f, size, eq-eqb n n refl),
           refl,
         ),
       )
 
-  sound-requestProgram : byte s 0 ≡ 8 → Sound s (requestProgramFields s)
+  sound-requestProgram : byte s 0 ≡ 8 → Sound s (judged 8 6 6 s)
   sound-requestProgram e =
       let n = idLength (byte s 4) in
-      by-cases (Sound s) (programListed (byte s 3)) (λ p.
-      by-cases (Sound s) (formListed (byte s 4)) (λ f.
-      by-cases (Sound s) (ltb (length s) (6 + n)) (λ _. sound-refused 0) (λ l. sound-id n e (ltb-false (length s) (6 + n) l) p f refl))
+      let P : ℕ → Type 0 = λ r. Sound s (cond (eqb r 0) (numbers 0 8 6 6 s) (refusedFields r)) in
+      by-cases P (programListed (byte s 3)) (λ p.
+      by-cases P (formListed (byte s 4)) (λ f.
+      by-cases P (ltb (length s) (6 + n)) (λ _. sound-refused 0) (λ l. sound-id e (ltb-false (length s) (6 + n) l) p f))
       (λ _. sound-refused 3)) (λ _. sound-refused 3)
 
-  sound-requestLoad : byte s 0 ≡ 10 → length s ≡ 3 → Sound s (requestLoadFields s)
+  sound-requestLoad : byte s 0 ≡ 10 → length s ≡ 3 → Sound s (numbers 0 10 0 3 s)
   unfolding layout find Sound
   sound-requestLoad e h =
       (omega arith, λ o. ((rw (← drop-of-length-le s {i = 3} (omega arith), on-byte s 2 (omega arith), on-byte s 1 (omega arith)) (headed 10 e (omega arith))), refl, refl))
 
-  sound-requestDump : byte s 0 ≡ 4 → length s ≡ 7 → Sound s (requestDumpFields s)
+  sound-requestDump : byte s 0 ≡ 4 → length s ≡ 7 → Sound s (numbers 0 4 0 7 s)
   unfolding layout find Sound
   sound-requestDump e h =
       (omega arith, λ o. ((rw (last-on-word 2 s 5 o (omega arith), on-word 4 s 1 o (omega arith)) (headed 4 e (omega arith))), refl, rw (fits o 4 1, fits o 2 5)))
 
-  sound-requestDumpService : byte s 0 ≡ 12 → 8 ≤ length s → Sound s (requestDumpServiceFields s)
+  sound-requestDumpService : byte s 0 ≡ 12 → 8 ≤ length s → Sound s (numbers 0 12 8 8 s)
   unfolding layout find Sound
   sound-requestDumpService e h = (
     omega arith,
@@ -326,22 +360,22 @@ module _ (s : List ℕ) where
     ),
   )
 
-  sound-dumpData : byte s 0 ≡ 14 → 5 ≤ length s → Sound s (dumpDataFields s)
+  sound-dumpData : byte s 0 ≡ 14 → 5 ≤ length s → Sound s (numbers 0 14 5 5 s)
   unfolding layout find Sound
   sound-dumpData e h = (omega arith, λ o. ((rw (rest s 5, on-word 4 s 1 o (omega arith)) (headed 14 e (omega arith))), refl, rw (fits o 4 1)))
 
   alone : (code : ℕ) → byte s 0 ≡ code → length s ≡ 1 → code ∷ [] ≡ s
   alone code e h = rw (← drop-of-length-le s {i = 1} (omega arith)) (headed code e (omega arith))
 
-  sound-dumpComplete : byte s 0 ≡ 1 → length s ≡ 1 → Sound s (codeFields 1)
+  sound-dumpComplete : byte s 0 ≡ 1 → length s ≡ 1 → Sound s (numbers 0 1 0 1 s)
   unfolding layout find Sound
   sound-dumpComplete e h = (omega arith, λ _. (alone 1 e h, refl, refl))
 
-  sound-volunteer : byte s 0 ≡ 3 → length s ≡ 1 → Sound s (codeFields 3)
+  sound-volunteer : byte s 0 ≡ 3 → length s ≡ 1 → Sound s (numbers 0 3 0 1 s)
   unfolding layout find Sound
   sound-volunteer e h = (omega arith, λ _. (alone 3 e h, refl, refl))
 
-  sound-entries : byte s 0 ≡ 20 → 7 ≤ length s → ended (walk Kind (drop 2 s)) ≡ 0 → Sound s (entriesFields s)
+  sound-entries : byte s 0 ≡ 20 → 7 ≤ length s → ended (walk Kind (drop 2 s)) ≡ 0 → Sound s (numbers 0 20 2 7 s)
   unfolding layout find Sound
   sound-entries e h z =
       let a = accepted (drop 2 s) (accepted-end (walk Kind (drop 2 s)) z) in
@@ -353,7 +387,7 @@ module _ (s : List ℕ) where
         omega arith,
         λ o. (
           (rw (last-on-word 4 s (length s - 4) o (omega arith), joined, on-byte s 1 (omega arith)) (headed 20 e (omega arith))),
-          rw entries,
+          rw (whole-listed (take (length s - 7) (drop 2 s)) entries),
           rw (fits o 4 (length s - 4)),
         ),
       )
@@ -362,22 +396,22 @@ module _ (s : List ℕ) where
   unfolding Sound
   sound-walked n e ne = (omega arith, λ _. rw (ne-eqb n 0 ne) tt)
 
-  sound-parameters : byte s 0 ≡ 20 → 7 ≤ length s → Sound s (parametersFields s)
+  sound-parameters : byte s 0 ≡ 20 → 7 ≤ length s → Sound s (judged 20 2 7 s)
   sound-parameters e h =
       let n = ended (walk Kind (drop 2 s)) in
       by-cases (Sound s) (eqb n 0) (λ b. sound-entries e h (eqb-true n 0 b)) (λ b. sound-walked n refl (eqb-false n 0 b))
 
-  sound-loopData : byte s 0 ≡ 24 → 3 ≤ length s → Sound s (loopFields 24 s)
+  sound-loopData : byte s 0 ≡ 24 → 3 ≤ length s → Sound s (numbers 0 24 3 3 s)
   unfolding layout find Sound
   sound-loopData e h = (omega arith, λ o. ((rw (rest s 3, on-word 2 s 1 o (omega arith)) (headed 24 e (omega arith))), refl, rw (fits o 2 1)))
 
-  sound-loopedData : byte s 0 ≡ 26 → 3 ≤ length s → Sound s (loopFields 26 s)
+  sound-loopedData : byte s 0 ≡ 26 → 3 ≤ length s → Sound s (numbers 0 26 3 3 s)
   unfolding layout find Sound
   sound-loopedData e h = (omega arith, λ o. ((rw (rest s 3, on-word 2 s 1 o (omega arith)) (headed 26 e (omega arith))), refl, rw (fits o 2 1)))
 
   -- what holds of a row: a frame of its code whose length is right has numbers that are sound
   abbrev SoundRow : Row → Type 0
-  SoundRow row = byte s 0 ≡ row .code → shortest (row .long) ≤ length s → length s ≤ longest (row .long) → Sound s (row .fields s)
+  SoundRow row = byte s 0 ≡ row .code → row .shortest ≤ length s → length s ≤ row .longest → Sound s (judged (row .code) (row .dataAt) (row .shortest) s)
 
   sound-rows : Each SoundRow rows
   unfolding Each
@@ -411,7 +445,7 @@ written-read s o m e = subst (Back s) e (sound s .1 o)
 pub fields-short : (s : List ℕ) → fields s .refusal ≡ 0 → length s ≤ 1500
 unfolding Each
 fields-short s =
-    by-tests s {R = λ (row : Row). longest (row .long) ≤ 1500} (λ (f : Fields). f .refusal ≡ 0 → length s ≤ 1500) (omega arith) (λ n e. absurd (omega arith)) (λ row _ _ m h _. le-trans m h)
+    by-tests s {R = λ (row : Row). row .longest ≤ 1500} (λ (f : Fields). f .refusal ≡ 0 → length s ≤ 1500) (omega arith) (λ n e. absurd (omega arith)) (λ row _ _ m h _. le-trans m h)
 
 -- what is read as a message is not refused, and its numbers state the message
 pub accepted-fields : (s : List ℕ) (m : Message) → read s ≡ message m → (fields s .refusal ≡ 0) × (stated s (fields s) (find rows (fields s .code)) ≡ message m)

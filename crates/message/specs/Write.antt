@@ -1,32 +1,18 @@
 -- Writing a frame from its fields (PROTOCOL 2, 'Messages', and 7, 'Refusals').
 use Prim.Native.Nat.{ℕ, _^_}
 use mathlib.Core.Path.{_≡_}
-use mathlib.Core.Bool.{Bool, true, false, _&&_, cond as pick}
-use mathlib.Core.List.{List, [], _∷_, _++_}
+use mathlib.Core.Bool.{Bool, true, _&&_, cond as pick}
+use mathlib.Core.List.{List, [], _∷_, _++_, foldr}
 use lib.ListN.{length, drop}
 use lib.Dec.{eqb, ltb}
 use Rattle.octets.specs.Number.{low}
 use Rattle.buffer.specs.Lay.{Output, written, refuse, laid}
-use Rattle.entries_next.specs.declared.Place.{Place}
-use Rattle.entries_next.specs.declared.Place.the-variants.{Kind, Size, Value, Time, Transfer, Outside, Excess}
+use Rattle.entries_next.specs.declared.Place.the-variants.{Kind}
 use Rattle.entries.specs.Entries.{walk}
 use Rattle.message.specs.Message.{Message, memoryLoadTransfer, memoryLoad, requestProgram, requestLoad, requestDump, requestDumpService, dumpData, dumpComplete, volunteer, parameters, loopData, loopedData, programListed, formListed, idLength}
+use Rattle.message.specs.Read.{ended}
 
 -- ---- the parts of a frame
--- entries may end where an entry's type would stand next
-abbrev pub whole : Place → Bool
-whole Kind = true
-whole (Size t) = false
-whole (Value n) = false
-whole (Time k b) = false
-whole (Transfer n) = false
-whole Outside = false
-whole Excess = false
-
--- a software id of n bytes fits a form: the form is listed and says that length
-abbrev pub idFits : ℕ → ℕ → Bool
-idFits form n = formListed form && eqb n (idLength form)
-
 -- A part of a frame: its bytes, whether its value is listed, and whether it fits its size.
 pub record Part : Type 0 where
   pub bytes : List ℕ
@@ -48,38 +34,31 @@ bytes xs = record { bytes = xs; listed = true; sized = true }
 abbrev pub programType : ℕ → Part
 programType program = record { bytes = program ∷ []; listed = programListed program; sized = true }
 
--- a form byte, then the id
+-- a form byte, then the id, which has the length that the form says
 abbrev pub softwareId : ℕ → List ℕ → Part
-softwareId form id = record { bytes = form ∷ id; listed = idFits form (length id); sized = true }
+softwareId form id = record { bytes = form ∷ id; listed = formListed form && eqb (length id) (idLength form); sized = true }
 
--- entries without their end mark
+-- entries without their end mark: with the mark and a transfer address behind them a reader accepts them
 abbrev pub entryList : List ℕ → Part
-entryList entries = record { bytes = entries; listed = whole (walk Kind entries); sized = true }
+entryList entries = record { bytes = entries; listed = eqb (ended (walk Kind (entries ++ (0 ∷ 0 ∷ 0 ∷ 0 ∷ 0 ∷ [])))) 0; sized = true }
 
--- A frame's parts: its code, and what follows it.
-pub record Parts : Type 0 where
-  pub code : ℕ
-  pub rest : List Part
-
-abbrev pub coded : ℕ → List Part → Parts
-coded code rest = record { code = code; rest = rest }
-
-abbrev pub parts : Message → Parts
+-- the parts of a message's frame, its code first
+abbrev pub parts : Message → List Part
 parts (memoryLoadTransfer number address contents transfer) =
-    coded 0 (byte number ∷ word 4 address ∷ bytes contents ∷ word 4 transfer ∷ [])
-parts (memoryLoad number address contents) = coded 2 (byte number ∷ word 4 address ∷ bytes contents ∷ [])
+    byte 0 ∷ byte number ∷ word 4 address ∷ bytes contents ∷ word 4 transfer ∷ []
+parts (memoryLoad number address contents) = byte 2 ∷ byte number ∷ word 4 address ∷ bytes contents ∷ []
 parts (requestProgram device format program form id processor info) =
-    coded 8 (byte device ∷ byte format ∷ programType program ∷ softwareId form id ∷ byte processor ∷ bytes info ∷ [])
-parts (requestLoad number error) = coded 10 (byte number ∷ byte error ∷ [])
-parts (requestDump address count) = coded 4 (word 4 address ∷ word 2 count ∷ [])
+    byte 8 ∷ byte device ∷ byte format ∷ programType program ∷ softwareId form id ∷ byte processor ∷ bytes info ∷ []
+parts (requestLoad number error) = byte 10 ∷ byte number ∷ byte error ∷ []
+parts (requestDump address count) = byte 4 ∷ word 4 address ∷ word 2 count ∷ []
 parts (requestDumpService device format size compatibility info) =
-    coded 12 (byte device ∷ byte format ∷ word 4 size ∷ byte compatibility ∷ bytes info ∷ [])
-parts (dumpData address contents) = coded 14 (word 4 address ∷ bytes contents ∷ [])
-parts dumpComplete = coded 1 []
-parts volunteer = coded 3 []
-parts (parameters number entries transfer) = coded 20 (byte number ∷ entryList entries ∷ byte 0 ∷ word 4 transfer ∷ [])
-parts (loopData receipt contents) = coded 24 (word 2 receipt ∷ bytes contents ∷ [])
-parts (loopedData receipt contents) = coded 26 (word 2 receipt ∷ bytes contents ∷ [])
+    byte 12 ∷ byte device ∷ byte format ∷ word 4 size ∷ byte compatibility ∷ bytes info ∷ []
+parts (dumpData address contents) = byte 14 ∷ word 4 address ∷ bytes contents ∷ []
+parts dumpComplete = byte 1 ∷ []
+parts volunteer = byte 3 ∷ []
+parts (parameters number entries transfer) = byte 20 ∷ byte number ∷ entryList entries ∷ byte 0 ∷ word 4 transfer ∷ []
+parts (loopData receipt contents) = byte 24 ∷ word 2 receipt ∷ bytes contents ∷ []
+parts (loopedData receipt contents) = byte 26 ∷ word 2 receipt ∷ bytes contents ∷ []
 
 -- bytes, and the parts that follow them, laid end to end
 unfoldable pub joined : List ℕ → List Part → List ℕ
@@ -89,19 +68,15 @@ joined xs (part ∷ rest) = xs ++ joined (part .bytes) rest
 -- the bytes of a message
 unfoldable pub layout : Message → List ℕ
 unfolding joined
-layout m = joined (parts m .code ∷ []) (parts m .rest)
-
-abbrev pub all : (Part → Bool) → List Part → Bool
-all test [] = true
-all test (part ∷ rest) = test part && all test rest
+layout m = joined [] (parts m)
 
 -- its program type, software form and entries are listed, and its id fits its form
 abbrev pub listed : Message → Bool
-listed m = all (λ part. part .listed) (parts m .rest)
+listed m = foldr (λ part rest. part .listed && rest) true (parts m)
 
 -- its numbers of several bytes fit their sizes
 abbrev pub Sized : Message → Type 0
-Sized m = all (λ part. part .sized) (parts m .rest) ≡ true
+Sized m = foldr (λ part rest. part .sized && rest) true (parts m) ≡ true
 
 -- ---- the writers
 -- a writer's answer and its buffer at exit: 4, then 2, then 9; else the frame, then what stood behind it

@@ -1,7 +1,7 @@
 // The messages: definitions and laws (specs/), and a frame's fields in numbers. Reading a frame is the crate reader, writing
 // one the crate writer.
 ghost use mathlib.Core.Path.{_≡_};
-ghost use Rattle.message.specs.Read.{codeFields, refusedFields};
+ghost use Rattle.message.specs.Read.{refusedFields};
 
 // A frame's fields in numbers: what reading answers, what the ends decide by, and what crosses the boundary to C. Fields
 // that the frame's code does not have are 0. `data_at` and `data_length` are the place of the variable part in the frame,
@@ -52,15 +52,6 @@ pub const BLANK: Fields = Fields {
     processor: 0,
     compatibility: 0,
 };
-
-// The numbers of a frame that has its code alone.
-pub fn of_code(code: u8) -> Fields
-    ensures { λ r. ⌜ r ≡ codeFields code ⌝ }
-{
-    let mut f = BLANK;
-    f.code = code;
-    f
-}
 
 // A refused frame: no code.
 pub fn refused(refusal: u8) -> Fields

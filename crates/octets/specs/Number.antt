@@ -1,12 +1,16 @@
 -- Numbers of several bytes, low byte first (PROTOCOL 1, 'Numbers').
 use Prim.Native.Nat.{ℕ, zero, suc, _+_, _*_, _/_, _%_, _<_}
 use mathlib.Core.List.{List, [], _∷_}
-use lib.ListN.{length, getD}
+use lib.ListN.{length, getD, take, drop}
 
 -- the number that bytes make, low byte first
 unfoldable pub number : List ℕ → ℕ
 number [] = 0
 number (b ∷ bs) = b + 256 * number bs
+
+-- the number in n bytes of a string from a place on
+abbrev pub word : ℕ → List ℕ → ℕ → ℕ
+word n s at = number (take n (drop at s))
 
 -- the n low bytes of a number, low byte first
 unfoldable pub low : ℕ → ℕ → List ℕ

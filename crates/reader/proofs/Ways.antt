@@ -9,7 +9,7 @@ use lib.ListN.{length}
 use lib.Dec.{ltb}
 use borrow.Author.Tests.{ne-eqb, ltb-false}
 use Rattle.message.specs.declared.Fields.{Fields}
-use Rattle.message.specs.Read.{shortest, longest, refusedFields, byte, Row, rows, find, frame, fields}
+use Rattle.message.specs.Read.{refusedFields, byte, Row, rows, find, judged, frame, fields}
 use Rattle.codes.specs.Table.{refusal}
 use Rattle.reader.specs.Row.{atLeast, byRow}
 
@@ -30,13 +30,13 @@ module _ (s : List ℕ) where
   frame-refused : (o : Option Row) → (refusal (length s) o ≡ 0 → ⊥) → frame s o ≡ refusedFields (refusal (length s) o)
   frame-refused none h = refl
   frame-refused (some row) h =
-      refused-by (ltb (length s) (shortest (row .long))) (ltb (longest (row .long)) (length s)) (row .fields s) h
+      refused-by (ltb (length s) (row .shortest)) (ltb (row .longest) (length s)) (judged (row .code) (row .dataAt) (row .shortest) s) h
 
   frame-right : (o : Option Row) → refusal (length s) o ≡ 0 → (frame s o ≡ byRow s o) × (atLeast o ≤ length s)
   frame-right none h = absurd (omega arith)
   frame-right (some row) h =
-      let r = right-by (ltb (length s) (shortest (row .long))) (ltb (longest (row .long)) (length s)) (row .fields s) h in
-      (r .0, ltb-false (length s) (shortest (row .long)) (r .1))
+      let r = right-by (ltb (length s) (row .shortest)) (ltb (row .longest) (length s)) (judged (row .code) (row .dataAt) (row .shortest) s) h in
+      (r .0, ltb-false (length s) (row .shortest) (r .1))
 
   module _ (n : ℕ) (e : n ≡ refusal (length s) (find rows (byte s 0))) where
     pub long : n ≡ 0 → atLeast (find rows (byte s 0)) ≤ length s

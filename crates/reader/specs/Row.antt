@@ -3,13 +3,13 @@ use Prim.Native.Nat.{ℕ}
 use mathlib.Core.List.{List}
 use mathlib.Core.Option.{Option, none, some}
 use Rattle.message.specs.declared.Fields.{Fields}
-use Rattle.message.specs.Read.{refusedFields, shortest, Row}
+use Rattle.message.specs.Read.{refusedFields, Row, judged}
 
 -- its least length, and its numbers
 abbrev pub atLeast : Option Row → ℕ
 atLeast none = 0
-atLeast (some row) = shortest (row .long)
+atLeast (some row) = row .shortest
 
 abbrev pub byRow : List ℕ → Option Row → Fields
 byRow s none = refusedFields 3
-byRow s (some row) = row .fields s
+byRow s (some row) = judged (row .code) (row .dataAt) (row .shortest) s

@@ -1,8 +1,9 @@
 // Reading frames (PROTOCOL 2, 'Messages'): a frame's fields in numbers.
 ghost use mathlib.Core.Path.{_≡_};
 ghost use Prim.Native.Nat.{_≤_};
+ghost use mathlib.Core.List.{[]};
 ghost use lib.ListN.{length};
-ghost use Rattle.message.specs.Read.{rows, find, fields, memoryLoadTransferFields, memoryLoadFields, requestLoadFields, requestDumpFields, requestDumpServiceFields, dumpDataFields, loopFields};
+ghost use Rattle.message.specs.Read.{rows, find, numbers, fields};
 ghost use Rattle.reader.specs.Row.{atLeast, byRow};
 use message::Fields;
 
@@ -33,18 +34,18 @@ fn by_code(code: u8, s: &[u8]) -> Fields
         4 => return request_dump(s),
         12 => return request_dump_service(s),
         14 => return dump_data(s),
-        1 => return message::of_code(1),
-        3 => return message::of_code(3),
+        1 => return dump_complete(),
+        3 => return volunteer(),
         20 => return reader_listed::parameters(s),
-        24 => return looping(24, s),
-        26 => return looping(26, s),
+        24 => return loop_data(s),
+        26 => return looped_data(s),
         _ => return message::refused(3),
     }
 }
 
 fn memory_load_transfer(s: &[u8]) -> Fields
     requires { ⌜ 10 ≤ length (now s) ⌝ }
-    ensures { λ r. ⌜ r ≡ memoryLoadTransferFields (now (s .entry)) ⌝ }
+    ensures { λ r. ⌜ r ≡ numbers 0 0 6 10 (now (s .entry)) ⌝ }
 {
     let mut f = message::BLANK;
     f.number = s[1];
@@ -57,7 +58,7 @@ fn memory_load_transfer(s: &[u8]) -> Fields
 
 fn memory_load(s: &[u8]) -> Fields
     requires { ⌜ 6 ≤ length (now s) ⌝ }
-    ensures { λ r. ⌜ r ≡ memoryLoadFields (now (s .entry)) ⌝ }
+    ensures { λ r. ⌜ r ≡ numbers 0 2 6 6 (now (s .entry)) ⌝ }
 {
     let mut f = message::BLANK;
     f.code = 2;
@@ -70,7 +71,7 @@ fn memory_load(s: &[u8]) -> Fields
 
 fn request_load(s: &[u8]) -> Fields
     requires { ⌜ 3 ≤ length (now s) ⌝ }
-    ensures { λ r. ⌜ r ≡ requestLoadFields (now (s .entry)) ⌝ }
+    ensures { λ r. ⌜ r ≡ numbers 0 10 0 3 (now (s .entry)) ⌝ }
 {
     let mut f = message::BLANK;
     f.code = 10;
@@ -80,7 +81,7 @@ fn request_load(s: &[u8]) -> Fields
 }
 
 fn request_dump(s: &[u8]) -> Fields
-    ensures { λ r. ⌜ r ≡ requestDumpFields (now (s .entry)) ⌝ }
+    ensures { λ r. ⌜ r ≡ numbers 0 4 0 7 (now (s .entry)) ⌝ }
 {
     let mut f = message::BLANK;
     f.code = 4;
@@ -91,7 +92,7 @@ fn request_dump(s: &[u8]) -> Fields
 
 fn request_dump_service(s: &[u8]) -> Fields
     requires { ⌜ 8 ≤ length (now s) ⌝ }
-    ensures { λ r. ⌜ r ≡ requestDumpServiceFields (now (s .entry)) ⌝ }
+    ensures { λ r. ⌜ r ≡ numbers 0 12 8 8 (now (s .entry)) ⌝ }
 {
     let mut f = message::BLANK;
     f.code = 12;
@@ -106,7 +107,7 @@ fn request_dump_service(s: &[u8]) -> Fields
 
 fn dump_data(s: &[u8]) -> Fields
     requires { ⌜ 5 ≤ length (now s) ⌝ }
-    ensures { λ r. ⌜ r ≡ dumpDataFields (now (s .entry)) ⌝ }
+    ensures { λ r. ⌜ r ≡ numbers 0 14 5 5 (now (s .entry)) ⌝ }
 {
     let mut f = message::BLANK;
     f.code = 14;
@@ -116,15 +117,39 @@ fn dump_data(s: &[u8]) -> Fields
     f
 }
 
-// Codes 24 and 26.
-fn looping(code: u8, s: &[u8]) -> Fields
-    requires { ⌜ 3 ≤ length (now s) ⌝ }
-    ensures { λ r. ⌜ r ≡ loopFields code (now (s .entry)) ⌝ }
+fn dump_complete() -> Fields
+    ensures { λ r. ⌜ r ≡ numbers 0 1 0 1 [] ⌝ }
 {
     let mut f = message::BLANK;
-    f.code = code;
+    f.code = 1;
+    f
+}
+
+fn volunteer() -> Fields
+    ensures { λ r. ⌜ r ≡ numbers 0 3 0 1 [] ⌝ }
+{
+    let mut f = message::BLANK;
+    f.code = 3;
+    f
+}
+
+fn loop_data(s: &[u8]) -> Fields
+    requires { ⌜ 3 ≤ length (now s) ⌝ }
+    ensures { λ r. ⌜ r ≡ numbers 0 24 3 3 (now (s .entry)) ⌝ }
+{
+    let mut f = message::BLANK;
+    f.code = 24;
     f.receipt = octets::word16(s, 1);
     f.data_at = 3;
     f.data_length = s.len() - 3;
+    f
+}
+
+fn looped_data(s: &[u8]) -> Fields
+    requires { ⌜ 3 ≤ length (now s) ⌝ }
+    ensures { λ r. ⌜ r ≡ numbers 0 26 3 3 (now (s .entry)) ⌝ }
+{
+    let mut f = loop_data(s);
+    f.code = 26;
     f
 }

@@ -1,16 +1,17 @@
 // Reading the two frames whose fields must be listed, codes 8 and 20 (PROTOCOL 2, 'Messages').
 ghost use mathlib.Core.Path.{_≡_};
 ghost use mathlib.Core.Bool.{cond};
-ghost use Prim.Native.Nat.{_≤_};
+ghost use Prim.Native.Nat.{_+_, _≤_};
 ghost use lib.ListN.{length};
 ghost use lib.Dec.{ltb};
-ghost use Rattle.message.specs.Read.{refusedFields, requestProgramFields, withId, ended, parametersFields};
+ghost use Rattle.message.specs.Message.{idLength};
+ghost use Rattle.message.specs.Read.{byte, numbers, refusedFields, ended, judged};
 use entries_next::Place;
 use message::Fields;
 
 // Code 8, request program: 1 below its least length, else its bytes in turn.
 pub fn request_program(s: &[u8]) -> Fields
-    ensures { λ r. ⌜ r ≡ cond (ltb (length (now (s .entry))) 6) (refusedFields 1) (requestProgramFields (now (s .entry))) ⌝ }
+    ensures { λ r. ⌜ r ≡ cond (ltb (length (now (s .entry))) 6) (refusedFields 1) (judged 8 6 6 (now (s .entry))) ⌝ }
 {
     if s.len() < 6 {
         return message::refused(1);
@@ -31,8 +32,8 @@ pub fn request_program(s: &[u8]) -> Fields
 
 // A program request whose software id has n bytes.
 fn with_id(s: &[u8], n: usize) -> Fields
-    requires { ⌜ (6 ≤ length (now s)) × (n ≤ 16) ⌝ }
-    ensures { λ r. ⌜ r ≡ withId n (now (s .entry)) ⌝ }
+    requires { ⌜ (6 ≤ length (now s)) × (n ≤ 16) × (n ≡ idLength (byte (now s) 4)) ⌝ }
+    ensures { λ r. ⌜ r ≡ cond (ltb (length (now (s .entry))) (6 + n)) (refusedFields 1) (numbers 0 8 6 6 (now (s .entry))) ⌝ }
 {
     let end = 6 + n;
     if s.len() < end {
@@ -54,7 +55,7 @@ fn with_id(s: &[u8], n: usize) -> Fields
 
 // Code 20, parameter load with transfer, alike.
 pub fn parameters(s: &[u8]) -> Fields
-    ensures { λ r. ⌜ r ≡ cond (ltb (length (now (s .entry))) 7) (refusedFields 1) (parametersFields (now (s .entry))) ⌝ }
+    ensures { λ r. ⌜ r ≡ cond (ltb (length (now (s .entry))) 7) (refusedFields 1) (judged 20 2 7 (now (s .entry))) ⌝ }
 {
     if s.len() < 7 {
         return message::refused(1);

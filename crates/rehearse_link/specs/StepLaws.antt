@@ -28,11 +28,12 @@ use Rattle.job.specs.declared.Ends.{Ends}
 use Rattle.job.specs.Run.{Run, Step, run, machineMoves, hostMoves}
 use Rattle.rehearse.specs.Rehearse.{machineHanded, machineTimed, hostHanded, hostTimed, still, hostLeaves, machineLeaves, event}
 use Rattle.link.specs.Link as link
-use Rattle.link.specs.Link.{Frame, acts, World, Event, own, Own, handToMachine, keepToMachine, dropToMachine, handToHost, keepToHost, dropToHost, machineTurn, hostTurn, handedToMachine, keptToMachine, droppedToMachine, handedToHost, keptToHost, droppedToHost, ownStep, queued}
-use Rattle.link.specs.MachineEnd.{End, machineEnd, machineTurned}
+use Rattle.link.specs.Link.{Frame, acts, turned, World, Event, own, Own, handToMachine, keepToMachine, dropToMachine, handToHost, keepToHost, dropToHost, machineTurn, hostTurn, ownStep, queued}
+use Rattle.link.specs.LinkLaws.{handedToMachine, keptToMachine, droppedToMachine, handedToHost, keptToHost, droppedToHost}
+use Rattle.link.specs.MachineEnd.{End, machineEnd}
 use Rattle.link.specs.Bounded.{within, runWithin}
 use Rattle.link.specs.Unrefused.{Unrefused}
-use Rattle.link_load.specs.Model.{hostEnd, hostTurned, loadEnds}
+use Rattle.link_load.specs.Model.{hostEnd, loadEnds}
 use Rattle.rehearse_link.specs.Ring.{frames, Ring}
 use Rattle.rehearse_link.specs.RingLaws.{leaves, empty-frames, all-within, leave-ring, sent-ring, sent-frames}
 use Rattle.rehearse_link.specs.World.{world, eventAt}
@@ -123,12 +124,12 @@ module _ (s : Setup) (file : List ℕ) (narrow : s .host .«segment_size» ≤ w
       }
 
   machine-acts : (o : Outcome Machine (List ℕ)) (a : Act Machine (List ℕ)) → o ≡ gives a b → Runs a → (q : Queue) → Ring q (r .hostPlaces) → (e : Own)
-      → ownStep ends w e ≡ machineTurn w (frames q (r .hostPlaces)) (machineTurned o) → P (machineStep o q) (own e ∷ [])
+      → ownStep ends w e ≡ machineTurn w (frames q (r .hostPlaces)) (turned machineEnd o) → P (machineStep o q) (own e ∷ [])
   unfolding P runWithin Runs
   machine-acts o a given-is runs q g e same =
       let t : Tells o (a .end) (a .lent) (queued (a .sending)) =
       subst (λ (x : Outcome Machine (List ℕ)). Tells x (a .end) (a .lent) (queued (a .sending))) (sym given-is) (tells a b (room .reply) (runs .1)) in
-      let turn : machineTurned o ≡ acts (machineEnd (a .end) (a .lent)) (queued (a .sending)) = ap machineTurned given-is ∙ acted machineEnd a b in
+      let turn : turned machineEnd o ≡ acts (machineEnd (a .end) (a .lent)) (queued (a .sending)) = ap (turned machineEnd) given-is ∙ acted machineEnd a b in
       let end : machineEnd (a .end) (a .lent) ≡ machineEnd (o .end) (o .lent) = rw (t .end, t .lent) in
       let joins : take 16 (w .toHost ++ queued (a .sending)) ≡ frames (sent from-machine (frameOf o)) (keeps from-machine (frameOf o) (r .machinePlaces)) =
       ap (λ (l : List Frame). take 16 (w .toHost ++ l)) (sym (t .out-is)) ∙ sym (sent-frames from-machine (r .machinePlaces) (room .machines) (frameOf o) (t .short)) in (
@@ -145,12 +146,12 @@ module _ (s : Setup) (file : List ℕ) (narrow : s .host .«segment_size» ≤ w
       )
 
   host-acts : (o : Outcome Session Unit) (a : Act Session Unit) → o ≡ gives a b → Short (a .sending) → (q : Queue) → Ring q (r .machinePlaces) → (e : Own)
-      → ownStep ends w e ≡ hostTurn w (frames q (r .machinePlaces)) (hostTurned o) → P (hostStep o q) (own e ∷ [])
+      → ownStep ends w e ≡ hostTurn w (frames q (r .machinePlaces)) (turned hostEnd o) → P (hostStep o q) (own e ∷ [])
   unfolding P runWithin
   host-acts o a given-is short q g e same =
       let t : Tells o (a .end) (a .lent) (queued (a .sending)) =
       subst (λ (x : Outcome Session Unit). Tells x (a .end) (a .lent) (queued (a .sending))) (sym given-is) (tells a b (room .reply) short) in
-      let turn : hostTurned o ≡ acts (a .end) (queued (a .sending)) = ap hostTurned given-is ∙ acted hostEnd a b in
+      let turn : turned hostEnd o ≡ acts (a .end) (queued (a .sending)) = ap (turned hostEnd) given-is ∙ acted hostEnd a b in
       let joins : take 16 (w .toMachine ++ queued (a .sending)) ≡ frames (sent from-host (frameOf o)) (keeps from-host (frameOf o) (r .hostPlaces)) =
       ap (λ (l : List Frame). take 16 (w .toMachine ++ l)) (sym (t .out-is)) ∙ sym (sent-frames from-host (r .hostPlaces) (room .hosts) (frameOf o) (t .short)) in (
         record {
@@ -197,7 +198,7 @@ module _ (s : Setup) (file : List ℕ) (narrow : s .host .«segment_size» ≤ w
           let o : machineHanded s r ≡ gives (ignores m (r .memory)) b = rw (eq-eqb (from-host .many) 0 z) in
           let same : w ≡ machineTurn w (frames q (r .hostPlaces)) (acts (w .machine) []) = rw (append-nil, empty, empty-frames q (r .hostPlaces) g (left z)) in
           machine-acts (machineHanded s r) (ignores m (r .memory)) o (room .running, tt) q g e
-          (without empty ∙ same ∙ ap (λ (x : Outcome Machine (List ℕ)). machineTurn w (frames q (r .hostPlaces)) (machineTurned x)) (sym o))
+          (without empty ∙ same ∙ ap (λ (x : Outcome Machine (List ℕ)). machineTurn w (frames q (r .hostPlaces)) (turned machineEnd x)) (sym o))
 
       some : 0 < from-host .many → P (machineStep (machineHanded s r) q) (own e ∷ [])
       some z =
@@ -208,7 +209,7 @@ module _ (s : Setup) (file : List ℕ) (narrow : s .host .«segment_size» ≤ w
           let handed : machineHanded s r ≡ machineFrame (s .machine) m f (r .memory) b = rw (ne-eqb (length f) 0 bytes) in
           machine-acts (machineHanded s r) (react (fields f)) (handed ∙ given machineEnd (first (machineRefusal ∷ fields f .refusal ∷ [])) m (r .memory) b (react (fields f)) accepted)
           (machine-runs (s .machine) m (r .memory) (room .running) (fields f) f) q g e
-          (with-one z ∙ ap (λ (x : Outcome Machine (List ℕ)). machineTurn w (frames q (r .hostPlaces)) (machineTurned x)) (sym handed))
+          (with-one z ∙ ap (λ (x : Outcome Machine (List ℕ)). machineTurn w (frames q (r .hostPlaces)) (turned machineEnd x)) (sym handed))
 
   to-host : (q : Queue) → Ring q (r .machinePlaces) → (from-machine .many ≡ 0 → q .many ≡ 0) → (e : Own) → (w .toHost ≡ [] → ownStep ends w e ≡ w)
       → (0 < from-machine .many → ownStep ends w e ≡ hostTurn w (frames q (r .machinePlaces)) (ends .hostFrame (w .host) first-machine b))
@@ -222,7 +223,7 @@ module _ (s : Setup) (file : List ℕ) (narrow : s .host .«segment_size» ≤ w
           let count : n ≡ n + 0 = omega arith in
           let same : w ≡ hostTurn w (frames q (r .machinePlaces)) (acts h []) = rw (append-nil, empty, empty-frames q (r .machinePlaces) g (left z), ← count) in
           host-acts (hostHanded s r file) (ignores h tt) o tt q g e
-          (without empty ∙ same ∙ ap (λ (x : Outcome Session Unit). hostTurn w (frames q (r .machinePlaces)) (hostTurned x)) (sym o))
+          (without empty ∙ same ∙ ap (λ (x : Outcome Session Unit). hostTurn w (frames q (r .machinePlaces)) (turned hostEnd x)) (sym o))
 
       some : 0 < from-machine .many → P (hostStep (hostHanded s r file) q) (own e ∷ [])
       some z =
@@ -233,7 +234,7 @@ module _ (s : Setup) (file : List ℕ) (narrow : s .host .«segment_size» ≤ w
           let handed : hostHanded s r file ≡ loadFrame (s .host) h file f b = rw (ne-eqb (length f) 0 bytes) in
           host-acts (hostHanded s r file) (react (fields f)) (handed ∙ given hostEnd (first (hostRefusal ∷ fields f .refusal ∷ [])) h tt b (react (fields f)) accepted)
           (host-short file S (load-next.react (load.frames file S) h (fields f)) narrow) q g e
-          (with-one z ∙ ap (λ (x : Outcome Session Unit). hostTurn w (frames q (r .machinePlaces)) (hostTurned x)) (sym handed))
+          (with-one z ∙ ap (λ (x : Outcome Session Unit). hostTurn w (frames q (r .machinePlaces)) (turned hostEnd x)) (sym handed))
 
   -- ---- it leaves, or is kept
   hosts-left : Ring (leave from-host) (r .hostPlaces)

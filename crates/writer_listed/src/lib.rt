@@ -1,8 +1,11 @@
 // Writing the two frames whose fields must be listed, codes 8 and 20 (PROTOCOL 2, 'Messages'): 4, then 2, then 9, as the other writers.
 ghost use mathlib.Core.Path.{_≡_};
 ghost use Rattle.buffer.specs.Lay.{Came};
-ghost use Rattle.message.specs.Message.{requestProgram, parameters};
-ghost use Rattle.message.specs.Write.{write, idFits, whole};
+ghost use mathlib.Core.Bool.{_&&_};
+ghost use lib.Dec.{eqb};
+ghost use Rattle.message.specs.Message.{requestProgram, parameters, formListed, idLength};
+ghost use Rattle.message.specs.Write.{write};
+ghost use Rattle.writer_listed.specs.Inner.{whole};
 use buffer::Written;
 use entries_next::Place;
 
@@ -38,7 +41,7 @@ pub fn request_program(
 
 // The form is listed, and says this length of an id.
 fn id_fits(form: u8, n: usize) -> bool
-    ensures { λ r. ⌜ r ≡ idFits form n ⌝ }
+    ensures { λ r. ⌜ r ≡ formListed form && eqb n (idLength form) ⌝ }
 {
     if form <= 16 {
         return n == form as usize;

@@ -5,7 +5,7 @@ use native.Mathlib.Omega.{arith}
 use lib.Dec.{eqb, leb}
 use borrow.Author.Needs.{needs}
 use borrow.Author.Tests.{le-leb, lt-leb, eq-eqb, ne-eqb}
-use Rattle.directory.specs.Directory.{longest, most, demand, trailerRefusal}
+use Rattle.directory.specs.Directory.{demand, trailerRefusal}
 use Rattle.directory.proofs.trailer_refusal.Statement.{statement}
 use Rattle.directory.proofs.trailer_refusal.Tie as tie
 
@@ -13,11 +13,11 @@ use Rattle.directory.proofs.trailer_refusal.Tie as tie
 sized : (c : tie.Else4)
     → let a = c .before .before .before .before .before .before .before .before .args in
     trailerRefusal (a .n) (a .t)
-    ≡ demand (leb 1 (a .t .count)) 6 (demand (leb (a .t .count) most) 6 (demand (eqb (a .t .directory + 12 * a .t .count + 16) (a .n)) 6 0))
+    ≡ demand (leb 1 (a .t .count)) 6 (demand (leb (a .t .count) 64) 6 (demand (eqb (a .t .directory + 12 * a .t .count + 16) (a .n)) 6 0))
 unfolding demand
 sized c =
     let a = c .before .before .before .before .before .before .before .before .args in
-    rw (le-leb 16 (a .n) (omega arith), le-leb (a .n) longest (omega arith), eq-eqb (a .t .length) (a .n) (omega arith), eq-eqb (a .t .zero) 0 (omega arith))
+    rw (le-leb 16 (a .n) (omega arith), le-leb (a .n) 16777216 (omega arith), eq-eqb (a .t .length) (a .n) (omega arith), eq-eqb (a .t .zero) 0 (omega arith))
 
 cast-length : tie.Need-cast-length
 cast-length c = search needs
@@ -47,7 +47,7 @@ returns-2 : tie.Need-returns-2
 unfolding demand
 returns-2 c =
     let a = c .before .before .before .before .before .args in
-    rw (le-leb 16 (a .n) (omega arith), lt-leb (a .n) longest (omega arith))
+    rw (le-leb 16 (a .n) (omega arith), lt-leb (a .n) 16777216 (omega arith))
 
 returns-3 : tie.Need-returns-3
 unfolding demand
@@ -55,7 +55,7 @@ returns-3 c =
     let a = c .before .before .before .before .before .before .args in
     rw (
       le-leb 16 (a .n) (omega arith),
-      le-leb (a .n) longest (omega arith),
+      le-leb (a .n) 16777216 (omega arith),
       ne-eqb (a .t .length) (a .n) (omega arith),
     )
 
@@ -65,7 +65,7 @@ returns-4 c =
     let a = c .before .before .before .before .before .before .before .before .args in
     rw (
       le-leb 16 (a .n) (omega arith),
-      le-leb (a .n) longest (omega arith),
+      le-leb (a .n) 16777216 (omega arith),
       eq-eqb (a .t .length) (a .n) (omega arith),
       ne-eqb (a .t .zero) 0 (omega arith),
     )
@@ -80,19 +80,19 @@ returns-6 : tie.Need-returns-6
 unfolding demand
 returns-6 c =
     let a = c .before .before .before .before .before .before .before .before .before .before .before .before .args in
-    rw (sized (c .before .before .before .before), le-leb 1 (a .t .count) (omega arith), lt-leb (a .t .count) most (omega arith))
+    rw (sized (c .before .before .before .before), le-leb 1 (a .t .count) (omega arith), lt-leb (a .t .count) 64 (omega arith))
 
 returns-7 : tie.Need-returns-7
 unfolding demand
 returns-7 c =
     let a = c .before .before .before .before .before .before .before .before .before .before .before .before .before .args in
-    rw (sized (c .before .before .before .before .before), le-leb 1 (a .t .count) (omega arith), le-leb (a .t .count) most (omega arith), ne-eqb (a .t .directory + 12 * a .t .count + 16) (a .n) (omega arith))
+    rw (sized (c .before .before .before .before .before), le-leb 1 (a .t .count) (omega arith), le-leb (a .t .count) 64 (omega arith), ne-eqb (a .t .directory + 12 * a .t .count + 16) (a .n) (omega arith))
 
 returns-8 : tie.Need-returns-8
 unfolding demand
 returns-8 c =
     let a = c .before .before .before .before .before .before .before .before .before .before .before .before .before .args in
-    rw (sized (c .before .before .before .before .before), le-leb 1 (a .t .count) (omega arith), le-leb (a .t .count) most (omega arith), eq-eqb (a .t .directory + 12 * a .t .count + 16) (a .n) (omega arith))
+    rw (sized (c .before .before .before .before .before), le-leb 1 (a .t .count) (omega arith), le-leb (a .t .count) 64 (omega arith), eq-eqb (a .t .directory + 12 * a .t .count + 16) (a .n) (omega arith))
 
 pub trailer-refusal-spec : {M : Type 1} → statement M
 trailer-refusal-spec =

@@ -30,22 +30,22 @@ dump-data-requires : tie.Need-dump-data-requires
 unfolding find
 dump-data-requires c κs = rw (c .match .keys7) at (c .before .before .pre)
 
-of-code-requires : tie.Need-of-code-requires
-of-code-requires c κs = search needs
+dump-complete-requires : tie.Need-dump-complete-requires
+dump-complete-requires c κs = search needs
 
-of-code-requires-2 : tie.Need-of-code-requires-2
-of-code-requires-2 c κs = search needs
+volunteer-requires : tie.Need-volunteer-requires
+volunteer-requires c κs = search needs
 
 parameters-requires : tie.Need-parameters-requires
 parameters-requires c κs = search needs
 
-looping-requires : tie.Need-looping-requires
+loop-data-requires : tie.Need-loop-data-requires
 unfolding find
-looping-requires c κs = rw (c .match .keys11) at (c .before .before .pre)
+loop-data-requires c κs = rw (c .match .keys11) at (c .before .before .pre)
 
-looping-requires-2 : tie.Need-looping-requires-2
+looped-data-requires : tie.Need-looped-data-requires
 unfolding find
-looping-requires-2 c κs = rw (c .match .keys12) at (c .before .before .pre)
+looped-data-requires c κs = rw (c .match .keys12) at (c .before .before .pre)
 
 refused-requires : tie.Need-refused-requires
 refused-requires c κs = search needs
@@ -83,11 +83,11 @@ returns-7 c = rw (c .before .match .keys7) (c .dump-data .ensures)
 
 returns-8 : tie.Need-returns-8
 unfolding find
-returns-8 c = rw (c .before .match .keys8) (c .of-code .ensures)
+returns-8 c = rw (c .before .match .keys8) (c .dump-complete .ensures)
 
 returns-9 : tie.Need-returns-9
 unfolding find
-returns-9 c = rw (c .before .match .keys9) (c .of-code2 .ensures)
+returns-9 c = rw (c .before .match .keys9) (c .volunteer .ensures)
 
 returns-10 : tie.Need-returns-10
 unfolding find
@@ -98,11 +98,11 @@ returns-10 c =
 
 returns-11 : tie.Need-returns-11
 unfolding find
-returns-11 c = rw (c .before .match .keys11) (c .looping .ensures)
+returns-11 c = rw (c .before .match .keys11) (c .loop-data .ensures)
 
 returns-12 : tie.Need-returns-12
 unfolding find
-returns-12 c = rw (c .before .match .keys12) (c .looping2 .ensures)
+returns-12 c = rw (c .before .match .keys12) (c .looped-data .ensures)
 
 returns-13 : tie.Need-returns-13
 unfolding find
@@ -128,15 +128,15 @@ by-code-spec =
     returns-6
     dump-data-requires
     returns-7
-    of-code-requires
+    dump-complete-requires
     returns-8
-    of-code-requires-2
+    volunteer-requires
     returns-9
     parameters-requires
     returns-10
-    looping-requires
+    loop-data-requires
     returns-11
-    looping-requires-2
+    looped-data-requires
     returns-12
     refused-requires
     returns-13)

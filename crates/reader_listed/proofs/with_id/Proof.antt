@@ -34,7 +34,9 @@ sub-f : tie.Need-sub-f
 sub-f c = search needs
 
 returns-2 : tie.Need-returns-2
-returns-2 c = rw (le-ltb _ _ (c .before .before .before .before .before .if1 .left))
+returns-2 c =
+    let went = c .before .before .before .before .before in
+    rw (le-ltb _ _ (went .if1 .left), ← went .before .before .pre .2)
 
 pub with-id-spec : {M : Type 1} → statement M
 with-id-spec =

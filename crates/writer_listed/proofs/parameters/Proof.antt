@@ -9,8 +9,10 @@ use Rattle.octets.specs.Number.{low}
 use Rattle.entries_next.specs.declared.Place.the-variants.{Kind}
 use Rattle.entries.specs.Entries.{walk}
 use Rattle.message.specs.Message.{parameters}
-use Rattle.message.specs.Write.{layout, whole, write}
+use Rattle.message.specs.Write.{layout, entryList, write}
 use Rattle.message.specs.Laws.{wrote}
+use Rattle.writer_listed.specs.Inner.{whole}
+use Rattle.writer_listed.proofs.Listed.{listed-as}
 use Rattle.writer_listed.proofs.parameters.Statement.{statement}
 use Rattle.writer_listed.proofs.parameters.Tie as tie
 
@@ -24,7 +26,7 @@ returns : tie.Need-returns
 unfolding write
 returns c =
     let a = c .before .before .before .before .before .args in
-    let no : whole (walk Kind (a .entries .now)) ≡ false = sym (c .before .whole .ensures ∙ ap whole (c .before .before .walk .ensures)) ∙ not-true _ (c .if1 .taken) in
+    let no : entryList (a .entries .now) .listed ≡ false = listed-as (a .entries .now) ∙ sym (c .before .whole .ensures ∙ ap whole (c .before .before .walk .ensures)) ∙ not-true _ (c .if1 .taken) in
     rw no (refl, refl)
 
 low32-requires : tie.Need-low32-requires
@@ -63,7 +65,7 @@ returns-2 c =
     let m = parameters (a .number) (a .entries .now) (a .transfer) in
     let f : List ℕ = 20 ∷ a .number ∷ (a .entries .now ++ (0 ∷ getD t 0 0 ∷ getD t 1 0 ∷ getD t 2 0 ∷ getD t 3 0 ∷ [])) in
     let e : f ≡ layout m = rw (went .low32 .ensures) in
-    let all : whole (walk Kind (a .entries .now)) ≡ true = sym (went .before .before .whole .ensures ∙ ap whole (went .before .before .before .walk .ensures)) ∙ not-false _ (went .before .if1 .left) in
+    let all : entryList (a .entries .now) .listed ≡ true = listed-as (a .entries .now) ∙ sym (went .before .before .whole .ensures ∙ ap whole (went .before .before .before .walk .ensures)) ∙ not-false _ (went .before .if1 .left) in
     wrote m (a .out .now) f (c .before .before .lay-three .ensures) e (rw all)
 
 pub parameters-spec : {M : Type 1} → statement M

@@ -1,9 +1,11 @@
 use borrow.Author.Needs.{needs}
 use borrow.Author.Tests.{le-leb, lt-leb, not-true, not-false}
 use mathlib.Core.Path.{_≡_, refl, sym, _∙_}
-use mathlib.Core.Bool.{true, false}
-use Rattle.message.specs.Write.{idFits, layout, write}
+use mathlib.Core.Bool.{true, false, _&&_}
 use lib.ListN.{length}
+use lib.Dec.{eqb}
+use Rattle.message.specs.Message.{formListed, idLength}
+use Rattle.message.specs.Write.{layout, write}
 use Rattle.writer_listed.proofs.request_program.Statement.{statement}
 use Rattle.writer_listed.proofs.request_program.Tie as tie
 
@@ -18,7 +20,7 @@ returns-2 : tie.Need-returns-2
 unfolding write
 returns-2 c =
     let a = c .before .before .before .before .before .before .args in
-    let no : idFits (a .form) (length (a .id .now)) ≡ false = sym (c .before .id-fits .ensures) ∙ not-true _ (c .if2 .taken) in
+    let no : formListed (a .form) && eqb (length (a .id .now)) (idLength (a .form)) ≡ false = sym (c .before .id-fits .ensures) ∙ not-true _ (c .if2 .taken) in
     rw (le-leb _ _ (c .before .before .if1 .left), no) (refl, refl)
 
 slice-aggregate-lay-four : tie.Need-slice-aggregate-lay-four
@@ -38,7 +40,7 @@ unfolding write layout
 returns-3 c =
     let went = c .before .before .before .before .before .before in
     let a = went .before .before .before .before .before .before .args in
-    let fit : idFits (a .form) (length (a .id .now)) ≡ true = sym (went .before .id-fits .ensures) ∙ not-false _ (went .if2 .left) in
+    let fit : formListed (a .form) && eqb (length (a .id .now)) (idLength (a .form)) ≡ true = sym (went .before .id-fits .ensures) ∙ not-false _ (went .if2 .left) in
     rw (le-leb _ _ (went .before .before .if1 .left), fit) (c .before .before .lay-four .ensures)
 
 pub request-program-spec : {M : Type 1} → statement M
