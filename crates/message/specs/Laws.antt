@@ -25,7 +25,7 @@ use Rattle.entries.specs.Laws.{walk-ended, accepted}
 use Rattle.message.specs.Message.{Message, memoryLoadTransfer, memoryLoad, requestProgram, requestLoad, requestDump, requestDumpService, dumpData, dumpComplete, volunteer, parameters, loopData, loopedData, programListed, formListed, idLength}
 use Rattle.message.specs.Read.{byte, lastWord, numbers, refusedFields, programRefusal, ended, inTurn, Row, row, rows, find, judged, frame, fields, Reading, refused, message, stated, said, read}
 use Rattle.message.specs.declared.Fields.{Fields}
-use Rattle.message.specs.Write.{entryList, parts, joined, layout, listed, Sized, write, sent}
+use Rattle.message.specs.Write.{Part, entryList, parts, joined, layout, listed, Sized, write, sent}
 
 -- The columns: refusal, code, number, error; device, format, program type, software form, processor, compatibility; count,
 -- receipt, address, transfer address, memory size; place and length of the variable part; place and length of the software id.
@@ -54,20 +54,14 @@ columns refusal code number error device format program form processor compatibi
     }
 
 -- no frame is empty: it begins with its code
+some-joined : (code : ℕ) (ps : List Part) → 0 < length (joined (code ∷ []) ps)
+unfolding joined
+some-joined code [] = omega arith
+some-joined code (part ∷ rest) = omega arith
+
 pub begins : (m : Message) → 0 < length (layout m)
 unfolding layout
-begins (memoryLoadTransfer n a d t) = omega arith
-begins (memoryLoad n a d) = omega arith
-begins (requestProgram d f p form id proc info) = omega arith
-begins (requestLoad n e) = omega arith
-begins (requestDump a n) = omega arith
-begins (requestDumpService d f m k info) = omega arith
-begins (dumpData a d) = omega arith
-begins dumpComplete = omega arith
-begins volunteer = omega arith
-begins (parameters n e t) = omega arith
-begins (loopData r d) = omega arith
-begins (loopedData r d) = omega arith
+begins m = some-joined (parts m .0) (parts m .1)
 
 -- a message of a listed code whose length is right is read by its row
 by-row : (m : Message) {row : Row} → find rows (byte (layout m) 0) ≡ some row → row .shortest ≤ length (layout m) → length (layout m) ≤ row .longest

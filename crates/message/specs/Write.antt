@@ -42,23 +42,23 @@ softwareId form id = record { bytes = form ∷ id; listed = formListed form && e
 abbrev pub entryList : List ℕ → Part
 entryList entries = record { bytes = entries; listed = eqb (ended (walk Kind (entries ++ (0 ∷ 0 ∷ 0 ∷ 0 ∷ 0 ∷ [])))) 0; sized = true }
 
--- the parts of a message's frame, its code first
-abbrev pub parts : Message → List Part
+-- a message's code, and the parts that follow it in the frame
+abbrev pub parts : Message → ℕ × List Part
 parts (memoryLoadTransfer number address contents transfer) =
-    byte 0 ∷ byte number ∷ word 4 address ∷ bytes contents ∷ word 4 transfer ∷ []
-parts (memoryLoad number address contents) = byte 2 ∷ byte number ∷ word 4 address ∷ bytes contents ∷ []
+    (0, byte number ∷ word 4 address ∷ bytes contents ∷ word 4 transfer ∷ [])
+parts (memoryLoad number address contents) = (2, byte number ∷ word 4 address ∷ bytes contents ∷ [])
 parts (requestProgram device format program form id processor info) =
-    byte 8 ∷ byte device ∷ byte format ∷ programType program ∷ softwareId form id ∷ byte processor ∷ bytes info ∷ []
-parts (requestLoad number error) = byte 10 ∷ byte number ∷ byte error ∷ []
-parts (requestDump address count) = byte 4 ∷ word 4 address ∷ word 2 count ∷ []
+    (8, byte device ∷ byte format ∷ programType program ∷ softwareId form id ∷ byte processor ∷ bytes info ∷ [])
+parts (requestLoad number error) = (10, byte number ∷ byte error ∷ [])
+parts (requestDump address count) = (4, word 4 address ∷ word 2 count ∷ [])
 parts (requestDumpService device format size compatibility info) =
-    byte 12 ∷ byte device ∷ byte format ∷ word 4 size ∷ byte compatibility ∷ bytes info ∷ []
-parts (dumpData address contents) = byte 14 ∷ word 4 address ∷ bytes contents ∷ []
-parts dumpComplete = byte 1 ∷ []
-parts volunteer = byte 3 ∷ []
-parts (parameters number entries transfer) = byte 20 ∷ byte number ∷ entryList entries ∷ byte 0 ∷ word 4 transfer ∷ []
-parts (loopData receipt contents) = byte 24 ∷ word 2 receipt ∷ bytes contents ∷ []
-parts (loopedData receipt contents) = byte 26 ∷ word 2 receipt ∷ bytes contents ∷ []
+    (12, byte device ∷ byte format ∷ word 4 size ∷ byte compatibility ∷ bytes info ∷ [])
+parts (dumpData address contents) = (14, word 4 address ∷ bytes contents ∷ [])
+parts dumpComplete = (1, [])
+parts volunteer = (3, [])
+parts (parameters number entries transfer) = (20, byte number ∷ entryList entries ∷ byte 0 ∷ word 4 transfer ∷ [])
+parts (loopData receipt contents) = (24, word 2 receipt ∷ bytes contents ∷ [])
+parts (loopedData receipt contents) = (26, word 2 receipt ∷ bytes contents ∷ [])
 
 -- bytes, and the parts that follow them, laid end to end
 unfoldable pub joined : List ℕ → List Part → List ℕ
@@ -68,15 +68,15 @@ joined xs (part ∷ rest) = xs ++ joined (part .bytes) rest
 -- the bytes of a message
 unfoldable pub layout : Message → List ℕ
 unfolding joined
-layout m = joined [] (parts m)
+layout m = joined (parts m .0 ∷ []) (parts m .1)
 
 -- its program type, software form and entries are listed, and its id fits its form
 abbrev pub listed : Message → Bool
-listed m = foldr (λ part rest. part .listed && rest) true (parts m)
+listed m = foldr (λ part rest. part .listed && rest) true (parts m .1)
 
 -- its numbers of several bytes fit their sizes
 abbrev pub Sized : Message → Type 0
-Sized m = foldr (λ part rest. part .sized && rest) true (parts m) ≡ true
+Sized m = foldr (λ part rest. part .sized && rest) true (parts m .1) ≡ true
 
 -- ---- the writers
 -- a writer's answer and its buffer at exit: 4, then 2, then 9; else the frame, then what stood behind it
