@@ -14,8 +14,9 @@ use Rattle.memory.specs.Memory.{fits, bytesFrom}
 use Rattle.step.specs.Step.{Outcome, first}
 use Rattle.directory.specs.Directory.{trailerOf, entryOf, entries, demand, entriesRefusal, refusal, regions}
 use Rattle.image.specs.Image.{many}
-use Rattle.machine_next.specs.declared.Machine.{Machine}
-use Rattle.machine_next.specs.Next.{idle, loading, byNumber, onLoad}
+use Rattle.machine_record.specs.declared.Machine.{Machine}
+use Rattle.machine_record.specs.Record.{idle, loading}
+use Rattle.machine_next.specs.Next.{byNumber, onLoad}
 use Rattle.machine.specs.Machine.{machineFrame}
 
 -- an image file with one region of these bytes at an address, started at 0

@@ -9,8 +9,9 @@ use Rattle.message.specs.Read.{find, fields}
 use Rattle.message.specs.Write.{layout}
 use Rattle.memory.specs.Memory.{bytesFrom}
 use Rattle.step.specs.Step.{first}
-use Rattle.machine_next.specs.declared.Settings.{Settings as MachineSettings}
-use Rattle.machine_next.specs.Next as machine
+use Rattle.machine_record.specs.declared.Settings.{Settings as MachineSettings}
+use Rattle.machine_record.specs.Record as machine
+use Rattle.machine_checks.specs.Checks as machineChecks
 use Rattle.dump_record.specs.declared.Settings.{Settings as DumpSettings}
 use Rattle.dump_checks.specs.Checks as dumpChecks
 use Rattle.link.specs.Link.{Event, own, handToMachine, handToHost, hostTimer, run}
@@ -23,7 +24,7 @@ s = record { length = 3; address = 1; «request_bytes» = 2; repeats = 1 }
 abbrev pub ms : MachineSettings
 ms = record { «reply_bytes» = 1495; device = 0; processor = 0 }
 
-accepted : (dumpChecks.settled s 3 ≡ true) × (machine.refusal ms machine.offering 3 1500 ≡ 0)
+accepted : (dumpChecks.settled s 3 ≡ true) × (machineChecks.refusal ms machine.offering 3 1500 ≡ 0)
 unfolding first
 accepted = (refl, refl)
 

@@ -14,8 +14,8 @@ use Rattle.segments.specs.Segments.{checked as imageChecked}
 use Rattle.script.specs.declared.Script.{Script}
 use Rattle.script.specs.Script.{checked}
 use Rattle.step.specs.Step.{Outcome, Leaves}
-use Rattle.machine_next.specs.declared.Machine.{Machine}
-use Rattle.machine_next.specs.Next.{requesting}
+use Rattle.machine_record.specs.declared.Machine.{Machine}
+use Rattle.machine_record.specs.Record.{requesting}
 use Rattle.machine_timer.specs.Timer.{machineTimer}
 use Rattle.load_next.specs.declared.Session.{Session}
 use Rattle.load_next.specs.Next.{fresh}

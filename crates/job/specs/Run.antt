@@ -5,8 +5,8 @@ use mathlib.Core.Bool.{false}
 use mathlib.Core.List.{List}
 use lib.ListN.{take}
 use Rattle.step.specs.Step.{Outcome}
-use Rattle.machine_next.specs.declared.Machine.{Machine}
-use Rattle.machine_next.specs.Next.{is, requesting}
+use Rattle.machine_record.specs.declared.Machine.{Machine}
+use Rattle.machine_record.specs.Record.{is, requesting}
 use Rattle.machine_timer.specs.Timer.{machineTimer}
 use Rattle.load_next.specs.declared.Session.{Session}
 use Rattle.load_next.specs.Next.{fresh}

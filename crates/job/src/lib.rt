@@ -10,14 +10,14 @@ ghost use Rattle.job.specs.Job.{setup, job, reading};
 ghost use Rattle.job.specs.Run.{run, freshEnds, begin, beginLine, endLine, Left};
 use buffer::Written;
 use load_next::Session;
-use machine_next::Machine;
+use machine_record::Machine;
 use queue::Queue;
 use script::Script;
 
 // The settings of both ends.
 pub struct Setup {
     pub host: load_next::Settings,
-    pub machine: machine_next::Settings,
+    pub machine: machine_record::Settings,
 }
 
 // What an input asks for: the settings, its numbers and letters, and the image's lengths in bytes and in segments; or a
@@ -60,7 +60,7 @@ fn prepare(script: Script) -> Setup
             segment_size: script.segment_size,
             repeats: script.repeats,
         },
-        machine: machine_next::Settings {
+        machine: machine_record::Settings {
             reply_bytes: 1495,
             device: 0,
             processor: 0,

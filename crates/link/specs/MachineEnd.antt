@@ -1,10 +1,9 @@
 -- The machine's end of the link: its state and its memory.
 use Prim.Native.Nat.{ℕ}
 use mathlib.Core.List.{List, []}
-use Rattle.machine_next.specs.declared.Machine.{Machine}
-use Rattle.machine_next.specs.declared.Settings.{Settings}
-use Rattle.machine_next.specs.Next.{onTimer}
-use Rattle.machine_timer.specs.Timer.{machineTimer}
+use Rattle.machine_record.specs.declared.Machine.{Machine}
+use Rattle.machine_record.specs.declared.Settings.{Settings}
+use Rattle.machine_timer.specs.Timer.{onTimer, machineTimer}
 use Rattle.machine.specs.Machine.{machineFrame}
 use Rattle.link.specs.Link.{Frame, Turn, turned, queued, World, Ends}
 

@@ -8,10 +8,11 @@ use Rattle.buffer.specs.declared.Written.{Written}
 use Rattle.message.specs.declared.Fields.{Fields}
 use Rattle.message.specs.Read.{fields}
 use Rattle.step.specs.Step.{Act, first, Leaves}
-use Rattle.machine_next.specs.declared.Machine.{Machine}
-use Rattle.machine_next.specs.declared.Settings.{Settings}
-use Rattle.machine_next.specs.Next.{refusal, react, onTimer}
-use Rattle.machine_timer.specs.Timer.{machineTimer}
+use Rattle.machine_record.specs.declared.Machine.{Machine}
+use Rattle.machine_record.specs.declared.Settings.{Settings}
+use Rattle.machine_checks.specs.Checks.{refusal}
+use Rattle.machine_next.specs.Next.{react}
+use Rattle.machine_timer.specs.Timer.{onTimer, machineTimer}
 use Rattle.machine.specs.Machine.{machineFrame}
 use Rattle.link.specs.Link.{Frame, Turn, refuses, acts, turn, turned, queued}
 use Rattle.link.specs.CallLaws as call

@@ -10,8 +10,9 @@ use borrow.Author.Tests.{le-leb}
 use Rattle.memory.specs.Memory.{bytesFrom}
 use Rattle.memory.specs.Laws.{length-bytesFrom}
 use Rattle.step.specs.Step.{first}
-use Rattle.machine_next.specs.declared.Settings.{Settings as MachineSettings}
-use Rattle.machine_next.specs.Next as machine
+use Rattle.machine_record.specs.declared.Settings.{Settings as MachineSettings}
+use Rattle.machine_record.specs.Record as machine
+use Rattle.machine_checks.specs.Checks as machineChecks
 use Rattle.dump_record.specs.declared.Settings.{Settings as DumpSettings}
 use Rattle.dump_timer.specs.Timer.{onTimer}
 use Rattle.dump_checks.specs.Checks as dumpChecks
@@ -69,7 +70,7 @@ module _ (s : DumpSettings) (memory buffer : List ℕ) (w : World Host End) (d :
 
 module _
     (s : DumpSettings) (ms : MachineSettings) (memory buffer : List ℕ) (settled : dumpChecks.settled s (length buffer) ≡ true)
-    (ready : machine.refusal ms machine.offering (length memory) 1500 ≡ 0) where
+    (ready : machineChecks.refusal ms machine.offering (length memory) 1500 ≡ 0) where
   abbrev g : Given s ms memory buffer
   g = given s ms memory buffer settled ready
 
@@ -127,7 +128,7 @@ module _
     unfolding first
     host-accepted reply h = rw (claimed .size, settled, claimed .sound, le-leb 1500 (length reply) h)
 
-    machine-accepted : (reply : List ℕ) → 1500 ≤ length reply → machine.refusal ms (w .machine .machine) (length (w .machine .memory)) (length reply) ≡ 0
+    machine-accepted : (reply : List ℕ) → 1500 ≤ length reply → machineChecks.refusal ms (w .machine .machine) (length (w .machine .memory)) (length reply) ≡ 0
     machine-accepted reply h =
         rw (k .0 .end .held) (as-accepted ms machine.offering (w .machine .machine) (length memory) (length reply) (omega arith) (omega (arith, k .0 .end .state)) h ready)
 

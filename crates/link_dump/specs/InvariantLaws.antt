@@ -18,9 +18,12 @@ use Rattle.message.specs.Read.{part as partOf}
 use Rattle.message.specs.Write.{layout}
 use Rattle.message.specs.Laws.{request-dump-fields, request-dump-service-fields, dump-data-fields, dump-data-part, dump-complete-fields}
 use Rattle.step.specs.Step.{Sending, acts as does}
-use Rattle.machine_next.specs.declared.Settings.{Settings as MachineSettings}
-use Rattle.machine_next.specs.Next as machine
-use Rattle.machine_next.specs.Laws.{in-range}
+use Rattle.machine_record.specs.declared.Settings.{Settings as MachineSettings}
+use Rattle.machine_record.specs.Record as machine
+use Rattle.machine_checks.specs.Checks as machineChecks
+use Rattle.machine_checks.specs.Laws.{in-range}
+use Rattle.machine_next.specs.Next.{react}
+use Rattle.machine_timer.specs.Timer.{asksDump, onTimer}
 use Rattle.dump_record.specs.declared.Settings.{Settings as DumpSettings}
 use Rattle.dump_checks.specs.Checks as dumpChecks
 use Rattle.link.specs.Link.{Frame, Turn, acts, queued, World}
@@ -48,7 +51,7 @@ pub data Asks : Message → Type 0 where
 
 -- What goes to the host: the offer, and bytes that are memory from their address on.
 pub data Tells (memory : List ℕ) : Message → Type 0 where
-  offer : (ms : MachineSettings) (size : ℕ) → size < 256 ^ 4 → Tells memory (machine.asksDump ms size)
+  offer : (ms : MachineSettings) (size : ℕ) → size < 256 ^ 4 → Tells memory (asksDump ms size)
   bytes : {a : ℕ} {d : List ℕ} → a < 256 ^ 4 → length d ≤ 1495 → d ≡ bytesFrom memory a (length d) → Tells memory (dumpData a d)
 
 short : (a : ℕ) (d : List ℕ) → length d ≤ 1495 → length (layout (dumpData a d)) ≤ 1500
@@ -56,7 +59,7 @@ unfolding layout low
 short a d k = omega arith
 
 -- an offer is no data; what a frame of data says
-no-data : (ms : MachineSettings) (size : ℕ) → size < 256 ^ 4 → fields (layout (machine.asksDump ms size)) .code ≡ 14 → ⊥
+no-data : (ms : MachineSettings) (size : ℕ) → size < 256 ^ 4 → fields (layout (asksDump ms size)) .code ≡ 14 → ⊥
 unfolding layout low
 no-data ms size h e =
     let code = ap (λ (f : Fields). f .code) (request-dump-service-fields (ms .device) 1 size 0 [] h (omega arith)) in omega arith
@@ -97,7 +100,7 @@ pub record Given (s : DumpSettings) (ms : MachineSettings) (memory buffer : List
   pub small : length memory < 256 ^ 4
 
 pub given : (s : DumpSettings) (ms : MachineSettings) (memory buffer : List ℕ)
-    → dumpChecks.settled s (length buffer) ≡ true → machine.refusal ms machine.offering (length memory) 1500 ≡ 0 → Given s ms memory buffer
+    → dumpChecks.settled s (length buffer) ≡ true → machineChecks.refusal ms machine.offering (length memory) 1500 ≡ 0 → Given s ms memory buffer
 given s ms memory buffer e r =
     let host = simp and-eq-true-iff at e in
     let end = in-range ms machine.offering (length memory) 1500 r in
@@ -165,7 +168,7 @@ module _ (s : DumpSettings) (ms : MachineSettings) (memory buffer : List ℕ) (g
   comes t a c d = came EndTurn t (machineEnd (a .end) (a .lent)) (queued (a .sending)) c tt d
 
   module _ (e : End) (i : EndHolds e) where
-    on-request : (m : Message) → Asks m → Does (machine.react ms (e .machine) (fields (layout m)) (layout m) (e .memory))
+    on-request : (m : Message) → Asks m → Does (react ms (e .machine) (fields (layout m)) (layout m) (e .memory))
     on-request m (part {a} {n} k l) =
         let most : ℕ = min n (ms .«reply_bytes») in
         let size : length (bytesFrom (e .memory) a most) ≡ most = length-bytesFrom (e .memory) a most in
@@ -176,11 +179,11 @@ module _ (s : DumpSettings) (ms : MachineSettings) (memory buffer : List ℕ) (g
         rw dump-complete-fields
         (by-cases Does (machine.is 1 (e .machine)) (λ _. (record { state = omega arith; held = i .held }, tt)) (λ _. (i, tt)))
 
-    on-tick : Does (machine.onTimer ms (e .machine) (e .memory))
+    on-tick : Does (onTimer ms (e .machine) (e .memory))
     on-tick =
         by-cases Says (machine.is 2 (e .machine)) (λ q. absurd (omega (arith, eqb-true, i .state)))
         (λ _. by-cases Says (machine.is 1 (e .machine))
-        (λ _. (i, ((machine.asksDump ms (length (e .memory)), offer ms (length (e .memory)) (rw (i .held) (g .small)), refl), tt))) (λ _. (i, tt)))
+        (λ _. (i, ((asksDump ms (length (e .memory)), offer ms (length (e .memory)) (rw (i .held) (g .small)), refl), tt))) (λ _. (i, tt)))
       where
         Says : Sending → Type 0
         Says out = Does (does (e .machine) (e .memory) out)
@@ -195,9 +198,9 @@ module _ (s : DumpSettings) (ms : MachineSettings) (memory buffer : List ℕ) (g
         hostFrame = λ h f b i c. let x = heard s h f b in on-heard h i f _ c x (alone.on-heard s (g .some) h (i .good) f _ x);
         hostTimer = λ h b i. let x = timed s h b in on-timed h i _ x (alone.on-timed s (g .some) h (i .good) _ x);
         machineFrame = λ e f b i c.
-            comes _ (machine.react ms (e .machine) (fields f) f (e .memory)) (on-frame ms (e .machine) (e .memory) b f)
-            (subst (λ (y : Frame). Does (machine.react ms (e .machine) (fields y) y (e .memory))) (sym (c .2)) (on-request e i (c .0) (c .1)));
-        machineTimer = λ e b i. comes _ (machine.onTimer ms (e .machine) (e .memory)) (on-timer ms (e .machine) (e .memory) b) (on-tick e i);
+            comes _ (react ms (e .machine) (fields f) f (e .memory)) (on-frame ms (e .machine) (e .memory) b f)
+            (subst (λ (y : Frame). Does (react ms (e .machine) (fields y) y (e .memory))) (sym (c .2)) (on-request e i (c .0) (c .1)));
+        machineTimer = λ e b i. comes _ (onTimer ms (e .machine) (e .memory)) (on-timer ms (e .machine) (e .memory) b) (on-tick e i);
       })
 
   pub fresh-holds : Inv (freshWorld ms memory buffer)
@@ -207,5 +210,5 @@ module _ (s : DumpSettings) (ms : MachineSettings) (memory buffer : List ℕ) (g
         host = record { good = fresh s (g .some) buffer; held = refl };
         end = record { state = omega arith; held = refl };
         toMachine = tt;
-        toHost = ((machine.asksDump ms (length memory), offer ms (length memory) (g .small), refl), tt);
+        toHost = ((asksDump ms (length memory), offer ms (length memory) (g .small), refl), tt);
       }

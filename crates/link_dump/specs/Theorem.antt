@@ -16,9 +16,10 @@ use lib.ListN.{length, getElem?}
 use Rattle.buffer.specs.declared.Written.{Written}
 use Rattle.memory.specs.Memory.{bytesFrom}
 use Rattle.step.specs.Step.{Leaves}
-use Rattle.machine_next.specs.declared.Machine.{Machine}
-use Rattle.machine_next.specs.declared.Settings.{Settings as MachineSettings}
-use Rattle.machine_next.specs.Next as machine
+use Rattle.machine_record.specs.declared.Machine.{Machine}
+use Rattle.machine_record.specs.declared.Settings.{Settings as MachineSettings}
+use Rattle.machine_record.specs.Record as machine
+use Rattle.machine_checks.specs.Checks as machineChecks
 use Rattle.machine_timer.specs.Timer.{machineTimer}
 use Rattle.dump_record.specs.declared.Session.{Session}
 use Rattle.dump_record.specs.declared.Settings.{Settings as DumpSettings}
@@ -37,7 +38,7 @@ use Rattle.link_dump.specs.DumpedLaws.{dumped-alike, kept, kept-within, 
 -- The fresh world is what the start calls leave: the host is `dump::start`'s; the machine and the one frame queued are what `machine::start_dump`
 -- left by its contract, if it was not refused.
 pub started-dump : (ms : MachineSettings) (m : Machine) (memory buffer reply reply′ : List ℕ) (answer : Written)
-    → machine.refusal ms machine.offering (length memory) (length reply) ≡ 0 → Leaves (machineTimer ms machine.offering memory reply) m answer memory reply′
+    → machineChecks.refusal ms machine.offering (length memory) (length reply) ≡ 0 → Leaves (machineTimer ms machine.offering memory reply) m answer memory reply′
     → (freshWorld ms memory buffer .host .session ≡ dumpRecord.fresh)
     × (turn (machineEnd m memory) answer reply′ ≡ acts (freshWorld ms memory buffer .machine) (freshWorld ms memory buffer .toHost))
 started-dump ms m memory buffer reply reply′ answer r l = (refl, starts ms machine.offering m memory memory reply reply′ answer r l)
@@ -45,7 +46,7 @@ started-dump ms m memory buffer reply reply′ answer r l = (refl, starts ms mac
 -- Accepted settings, any memory and dump buffer of accepted lengths, any list of events: the parameters of all that follows.
 module _
     (s : DumpSettings) (ms : MachineSettings) (memory buffer : List ℕ) (settled : dumpChecks.settled s (length buffer) ≡ true)
-    (ready : machine.refusal ms machine.offering (length memory) 1500 ≡ 0) (es : List (Event ⊥)) where
+    (ready : machineChecks.refusal ms machine.offering (length memory) 1500 ≡ 0) (es : List (Event ⊥)) where
   -- The theorem.
   pub dumped : Dumped s memory buffer (after s ms memory buffer es)
   dumped = claimed s ms memory buffer settled ready (after s ms memory buffer es) (kept s ms memory buffer settled ready es)

@@ -12,10 +12,12 @@ use Rattle.octets.specs.TestLaws.{by-cases}
 use Rattle.message.specs.Message.{Message, requestLoad}
 use Rattle.message.specs.Write.{layout}
 use Rattle.step.specs.Step.{nothing, sends, acts}
-use Rattle.machine_next.specs.declared.Machine.{Machine}
-use Rattle.machine_next.specs.declared.Settings.{Settings}
-use Rattle.machine_next.specs.Next.{requesting, loading, after, byNumber, takenAs, asksLoad, onTimer}
-use Rattle.machine_timer.specs.Timer.{machineTimer}
+use Rattle.machine_record.specs.declared.Machine.{Machine}
+use Rattle.machine_record.specs.declared.Settings.{Settings}
+use Rattle.machine_record.specs.Record.{requesting, loading}
+use Rattle.machine_number.specs.Number.{after}
+use Rattle.machine_next.specs.Next.{byNumber, takenAs}
+use Rattle.machine_timer.specs.Timer.{asksLoad, onTimer, machineTimer}
 use Rattle.machine.specs.Machine.{machineFrame}
 use Rattle.link.specs.Link.{Frame, Turn, turned, World}
 use Rattle.link.specs.NumberedLaws.{Transfer, Receiver}

@@ -13,8 +13,8 @@ use Rattle.message.specs.Read.{fields}
 use Rattle.message.specs.Write.{layout}
 use Rattle.message.specs.Laws.{request-load-fields, request-program-fields}
 use Rattle.step.specs.Step.{first}
-use Rattle.machine_next.specs.declared.Settings.{Settings as MachineSettings}
-use Rattle.machine_next.specs.Next.{asksLoad}
+use Rattle.machine_record.specs.declared.Settings.{Settings as MachineSettings}
+use Rattle.machine_timer.specs.Timer.{asksLoad}
 use Rattle.load_next.specs.declared.Session.{Session}
 use Rattle.load_next.specs.declared.Settings.{Settings}
 use Rattle.load_next.specs.declared.Next.{Next}

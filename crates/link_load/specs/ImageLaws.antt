@@ -18,9 +18,11 @@ use Rattle.directory.specs.Directory.{trailer, regions}
 use Rattle.image.specs.Image.{many, segmentOf, segment, cutRefusal}
 use Rattle.directory.specs.Laws.{transfer-bound}
 use Rattle.image.specs.Laws.{Held, ready, many-range, file-segment, length-segment}
-use Rattle.machine_next.specs.declared.Machine.{Machine}
-use Rattle.machine_next.specs.declared.Settings.{Settings}
-use Rattle.machine_next.specs.Next.{loading, started, after, byNumber, takenAs, onLoad, react}
+use Rattle.machine_record.specs.declared.Machine.{Machine}
+use Rattle.machine_record.specs.declared.Settings.{Settings}
+use Rattle.machine_record.specs.Record.{loading, started}
+use Rattle.machine_number.specs.Number.{after}
+use Rattle.machine_next.specs.Next.{byNumber, takenAs, onLoad, react}
 use Rattle.machine.specs.Machine.{machineFrame}
 use Rattle.load.specs.Load.{segmentMessage}
 use Rattle.link.specs.Link.{turned}

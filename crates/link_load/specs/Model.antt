@@ -7,8 +7,8 @@ use lib.ListN.{length}
 use Rattle.memory.specs.Memory.{fits, laid}
 use Rattle.directory.specs.Directory.{trailer, regions}
 use Rattle.image.specs.Image.{many, segmentOf}
-use Rattle.machine_next.specs.declared.Settings.{Settings as MachineSettings}
-use Rattle.machine_next.specs.Next as machine
+use Rattle.machine_record.specs.declared.Settings.{Settings as MachineSettings}
+use Rattle.machine_record.specs.Record as machine
 use Rattle.load_next.specs.declared.Session.{Session}
 use Rattle.load_next.specs.declared.Settings.{Settings as LoadSettings}
 use Rattle.load_next.specs.Next.{fresh}

@@ -20,10 +20,11 @@ use Rattle.directory.specs.Directory.{demand}
 use Rattle.directory.specs.Directory.{refusal as imageRefusal}
 use Rattle.image.specs.Laws.{ready}
 use Rattle.step.specs.Step.{first}
-use Rattle.machine_next.specs.declared.Machine.{Machine}
-use Rattle.machine_next.specs.declared.Settings.{Settings as MachineSettings}
-use Rattle.machine_next.specs.Next.{requesting}
-use Rattle.machine_next.specs.Next.{after as after-number, refusal as machineRefusal}
+use Rattle.machine_record.specs.declared.Machine.{Machine}
+use Rattle.machine_record.specs.declared.Settings.{Settings as MachineSettings}
+use Rattle.machine_record.specs.Record.{requesting}
+use Rattle.machine_checks.specs.Checks.{refusal as machineRefusal}
+use Rattle.machine_number.specs.Number.{after as after-number}
 use Rattle.load_next.specs.declared.Session.{Session}
 use Rattle.load_next.specs.declared.Settings.{Settings as LoadSettings}
 use Rattle.load_next.specs.Next as next

@@ -8,7 +8,7 @@ use lib.ListN.{length, take, drop, getElem?}
 use Rattle.directory.specs.declared.Region.{Region}
 use Rattle.directory.specs.Directory.{trailer, regions}
 use Rattle.image.specs.Image.{many}
-use Rattle.machine_next.specs.Next as machine
+use Rattle.machine_record.specs.Record as machine
 use Rattle.load_next.specs.declared.Session.{Session}
 use Rattle.load_next.specs.declared.Settings.{Settings as LoadSettings}
 use Rattle.link.specs.Link.{World}

@@ -5,8 +5,8 @@ use mathlib.Core.Bool.{Bool, true, false, cond as pick}
 use mathlib.Core.List.{List}
 use native.Mathlib.Omega.{arith}
 use Rattle.message.specs.Write.{layout}
-use Rattle.machine_next.specs.declared.Settings.{Settings as MachineSettings}
-use Rattle.machine_next.specs.Next.{after}
+use Rattle.machine_record.specs.declared.Settings.{Settings as MachineSettings}
+use Rattle.machine_number.specs.Number.{after}
 use Rattle.load_next.specs.declared.Session.{Session}
 use Rattle.load_next.specs.Next as next
 use Rattle.link.specs.Link.{Frame, Turn, Ends}

@@ -21,10 +21,12 @@ use Rattle.message.specs.Write.{layout, listed, write}
 use Rattle.message.specs.Laws.{fields-inside, fields-short, written-read}
 use Rattle.step.specs.Step.{Sending, nothing, sends, Act, acts, gives, Leaves}
 use Rattle.step.specs.Laws.{sent-by, sent-leaves}
-use Rattle.machine_next.specs.declared.Settings.{Settings}
-use Rattle.machine_next.specs.declared.Machine.{Machine}
+use Rattle.machine_record.specs.declared.Settings.{Settings}
+use Rattle.machine_record.specs.declared.Machine.{Machine}
+use Rattle.machine_record.specs.Record.{is}
+use Rattle.machine_number.specs.Number.{heed}
 use Rattle.machine_next.specs.declared.Next.{Next}
-use Rattle.machine_next.specs.Next.{is, heed, byNumber, onLoad, onDump, react, sending, does}
+use Rattle.machine_next.specs.Next.{byNumber, onLoad, onDump, react, sending, does}
 use Rattle.machine.specs.Inner.{Short}
 
 -- ---- what is sent

@@ -4,9 +4,10 @@ use mathlib.Core.List.{List}
 use lib.ListN.{length}
 use Rattle.message.specs.declared.Fields.{Fields}
 use Rattle.step.specs.Step.{Outcome, frameCall}
-use Rattle.machine_next.specs.declared.Settings.{Settings}
-use Rattle.machine_next.specs.declared.Machine.{Machine}
-use Rattle.machine_next.specs.Next.{refusal, react}
+use Rattle.machine_record.specs.declared.Settings.{Settings}
+use Rattle.machine_record.specs.declared.Machine.{Machine}
+use Rattle.machine_checks.specs.Checks.{refusal}
+use Rattle.machine_next.specs.Next.{react}
 
 abbrev pub machineFrame : Settings → Machine → List ℕ → List ℕ → List ℕ → Outcome Machine (List ℕ)
 machineFrame s m frame memory reply =

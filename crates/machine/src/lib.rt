@@ -13,10 +13,10 @@ ghost use Rattle.machine_next.specs.Next.{sending};
 ghost use Rattle.machine.specs.Machine.{machineFrame};
 ghost use Rattle.machine.specs.Inner.{Short};
 use buffer::Written;
-pub use machine_next::Machine;
 use machine_next::Sends;
-pub use machine_next::Settings;
-pub use machine_next::Stepped;
+pub use machine_record::Machine;
+pub use machine_record::Settings;
+pub use machine_record::Stepped;
 use message::Fields;
 
 // Code 26: the frame's data again.
@@ -44,7 +44,7 @@ fn send(
     ensures { λ r. ⌜ Leaves (gives (acts machine (now (memory .entry)) (sending f (now (frame .entry)) (now (memory .entry)) sends)) (now (reply .entry))) (r .machine) (r .answer) (now (memory .entry)) (now (reply .exit)) ⌝ }
 {
     match sends {
-        Sends::Nothing => return machine_next::refused(machine, 0),
+        Sends::Nothing => return machine_record::refused(machine, 0),
         Sends::Load(number, error) => {
             let answer = writer::request_load(number, error, reply);
             return Stepped { machine, answer };
@@ -83,13 +83,13 @@ pub fn frame(
 ) -> Stepped
     ensures { λ r. ⌜ Leaves (machineFrame settings machine (now (frame .entry)) (now (memory .entry)) (now (reply .entry))) (r .machine) (r .answer) (now (memory .exit)) (now (reply .exit)) ⌝ }
 {
-    let n = machine_next::refusal(settings, machine, memory.len(), reply.len());
+    let n = machine_checks::refusal(settings, machine, memory.len(), reply.len());
     if n != 0 {
-        return machine_next::refused(machine, n);
+        return machine_record::refused(machine, n);
     }
     let f = reader::read(frame);
     if f.refusal != 0 {
-        return machine_next::refused(machine, f.refusal);
+        return machine_record::refused(machine, f.refusal);
     }
     let next = machine_next::react(settings, machine, f, memory.len());
     let sends = next.sends;

@@ -2,10 +2,12 @@
 use Prim.Native.Nat.{ℕ}
 use mathlib.Core.Bool.{Bool, true, false, cond as pick}
 use lib.Dec.{eqb}
-use Rattle.machine_next.specs.declared.Machine.{Machine}
+use Rattle.machine_record.specs.declared.Machine.{Machine}
+use Rattle.machine_record.specs.Record.{loading}
+use Rattle.machine_number.specs.Number.{after, heed}
 use Rattle.machine_next.specs.declared.Sends.the-variants.{Nothing, Load}
 use Rattle.machine_next.specs.declared.Next.{Next}
-use Rattle.machine_next.specs.Next.{loading, after, heed, next}
+use Rattle.machine_next.specs.Next.{next}
 
 -- a frame that is taken, and the number rule
 abbrev pub taken : ℕ → Bool → Machine → Next

@@ -1,22 +1,19 @@
--- A load decided in numbers is what the machine does with it; what a call that is not refused may rely on.
-use Prim.Native.Nat.{ℕ, zero, suc}
+-- A load decided in numbers is what the machine does with it.
+use Prim.Native.Nat.{ℕ, zero, suc, _≤_}
 use mathlib.Core.Path.{_≡_, refl, _∙_}
 use mathlib.Core.Bool.{Bool, true, false, _||_, cond as pick}
 use mathlib.Core.List.{List}
 use native.Mathlib.Omega.{arith}
-use Prim.Native.Nat.{_≤_}
 use lib.ListN.{length}
-use lib.Dec.{eqb, leb}
-use borrow.Author.Tests.{leb-true}
+use lib.Dec.{eqb}
 use Rattle.memory.specs.Memory.{fits, laid}
 use Rattle.message.specs.declared.Fields.{Fields}
 use Rattle.message.specs.Read.{part}
-use Rattle.step.specs.Laws.{met, none}
-use Rattle.machine_next.specs.declared.Settings.{Settings}
-use Rattle.machine_next.specs.declared.Machine.{Machine}
+use Rattle.machine_record.specs.declared.Machine.{Machine}
+use Rattle.machine_number.specs.Number.{heed}
 use Rattle.machine_next.specs.declared.Sends.the-variants.{Nothing, Load}
 use Rattle.machine_next.specs.declared.Next.{Next}
-use Rattle.machine_next.specs.Next.{heed, byNumber, takenAs, onLoad, refusal, next, does}
+use Rattle.machine_next.specs.Next.{byNumber, takenAs, onLoad, next, does}
 use Rattle.machine_next.specs.Inner.{taken, heeded}
 
 module _ (f : Fields) (frame memory : List ℕ) where
@@ -44,17 +41,3 @@ pub idle-or-offering : (state : ℕ) → state ≤ 1 → (eqb state 0 || eqb sta
 idle-or-offering zero h = refl
 idle-or-offering (suc zero) h = refl
 idle-or-offering (suc (suc n)) h = absurd (omega arith)
-
--- a call that is not refused may rely on the ranges
-pub in-range : (s : Settings) (m : Machine) (size room : ℕ) → refusal s m size room ≡ 0
-    → (size ≤ 16777216) × (s .«reply_bytes» ≤ 1495) × (1500 ≤ room)
-in-range s m size room e =
-    let a = none _ _ e in
-    let b = none _ _ (a .1) in
-    let c = none _ _ (b .1) in
-    let d = none _ _ (c .1) in
-    let f = none _ _ (d .1) in (
-      leb-true size 16777216 (met (leb size 16777216) 10 (omega arith) (a .0)),
-      leb-true (s .«reply_bytes») 1495 (met (leb (s .«reply_bytes») 1495) 10 (omega arith) (c .0)),
-      leb-true 1500 room (met (leb 1500 room) 9 (omega arith) (f .0)),
-    )

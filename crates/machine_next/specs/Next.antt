@@ -1,57 +1,23 @@
--- What the machine end does on a frame and on a timer (PROTOCOL 4, 'Machine end').
-use Prim.Native.Nat.{ℕ, _+_, _%_, min}
-use mathlib.Core.Bool.{Bool, _&&_, _||_, cond as pick}
-use mathlib.Core.List.{List, [], _∷_}
+-- What the machine end does on a frame (PROTOCOL 4, 'Machine end').
+use Prim.Native.Nat.{ℕ, min}
+use mathlib.Core.Bool.{Bool, _||_, cond as pick}
+use mathlib.Core.List.{List}
 use lib.ListN.{length}
-use lib.Dec.{eqb, leb}
+use lib.Dec.{eqb}
 use Rattle.memory.specs.Memory.{fits, laid, deposited, bytesFrom}
 use Rattle.message.specs.declared.Fields.{Fields}
-use Rattle.message.specs.Message.{Message, requestProgram, requestLoad, requestDumpService, dumpData, loopedData}
+use Rattle.message.specs.Message.{requestLoad, dumpData, loopedData}
 use Rattle.message.specs.Read.{part}
-use Rattle.step.specs.Step.{Sending, nothing, sends, Act, acts, ignores, unless, first}
-use Rattle.machine_next.specs.declared.Settings.{Settings}
-use Rattle.machine_next.specs.declared.Machine.{Machine}
+use Rattle.step.specs.Step.{Sending, nothing, sends, Act, acts, ignores}
+use Rattle.machine_record.specs.declared.Settings.{Settings}
+use Rattle.machine_record.specs.declared.Machine.{Machine}
+use Rattle.machine_record.specs.Record.{idle, loading, started, is}
+use Rattle.machine_number.specs.Number.{after, heed}
 use Rattle.machine_next.specs.declared.Sends.{Sends}
 use Rattle.machine_next.specs.declared.Sends.the-variants.{Nothing, Load, Data, Looped}
 use Rattle.machine_next.specs.declared.Next.{Next}
 
--- ---- states, by number: 0 Idle, 1 Offering, 2 Requesting, 3 Loading, 4 Started
--- a machine in a state, with Loading's expected number and last reply's error, and Started's transfer address
-abbrev pub inState : ℕ → ℕ → ℕ → ℕ → Machine
-inState state expected error transfer = record { transfer = transfer; state = state; expected = expected; error = error }
-
-abbrev pub idle : Machine
-idle = inState 0 0 0 0
-
-abbrev pub offering : Machine
-offering = inState 1 0 0 0
-
-abbrev pub requesting : Machine
-requesting = inState 2 0 0 0
-
-abbrev pub loading : ℕ → ℕ → Machine
-loading expected error = inState 3 expected error 0
-
-abbrev pub started : ℕ → Machine
-started transfer = inState 4 0 0 transfer
-
-abbrev pub is : ℕ → Machine → Bool
-is state m = eqb (m .state) state
-
 -- ---- the number rule
--- the number after a number: after 255 comes 0
-abbrev pub after : ℕ → ℕ
-after n = (n + 1) % 256
-
--- what a frame's number makes of it: 0 ignored, 1 taken, 2 the last reply again. Offering and Started ignore it; number 0, or the
--- one that Loading expects, is taken; the one before the expected gets the last reply again
-abbrev pub heed : Machine → ℕ → ℕ
-heed m number =
-    pick (is 1 m || is 4 m) 0
-    (pick (eqb number 0 || (is 3 m && eqb number (m .expected))) 1
-    (pick (is 3 m && eqb (after number) (m .expected)) 2
-    0))
-
 unfoldable pub byNumber : Machine → ℕ → Act Machine (List ℕ) → List ℕ → Act Machine (List ℕ)
 byNumber m number taken memory =
     pick (eqb (heed m number) 1) taken
@@ -92,33 +58,6 @@ react s m f frame memory =
     (pick (eqb (f .code) 1) (onComplete m memory)
     (pick (eqb (f .code) 24) (onLoop m (f .receipt) (part frame f) memory)
     (ignores m memory)))))
-
--- ---- a timer
--- what a Requesting and an Offering machine send, first of all and at each timer
-abbrev pub asksLoad : Settings → Message
-asksLoad s = requestProgram (s .device) 1 2 255 [] (s .processor) []
-
-abbrev pub asksDump : Settings → ℕ → Message
-asksDump s size = requestDumpService (s .device) 1 size 0 []
-
--- Requesting asks for a program, Offering for a dump; other timers do nothing
-abbrev pub onTimer : Settings → Machine → List ℕ → Act Machine (List ℕ)
-onTimer s m memory =
-    acts m memory
-    (pick (is 2 m) (sends (asksLoad s))
-    (pick (is 1 m) (sends (asksDump s (length memory)))
-    nothing))
-
--- ---- a call's refusal, with a memory and a reply buffer of these lengths; 0 is none
-abbrev pub refusal : Settings → Machine → ℕ → ℕ → ℕ
-refusal s m size room =
-    first
-    (unless (leb size 16777216) 10 ∷
-    unless (leb 1 (s .«reply_bytes»)) 10 ∷
-    unless (leb (s .«reply_bytes») 1495) 10 ∷
-    unless (leb (m .state) 4) 10 ∷
-    unless (leb 1500 room) 9 ∷
-    [])
 
 -- ---- the code's decision on a frame, in numbers
 -- what goes out

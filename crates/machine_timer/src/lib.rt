@@ -7,12 +7,12 @@ ghost use Rattle.buffer.specs.Lay.{Came};
 ghost use Rattle.message.specs.Message.{requestProgram, requestDumpService};
 ghost use Rattle.message.specs.Write.{sent};
 ghost use Rattle.step.specs.Step.{gives, Leaves};
-ghost use Rattle.machine_next.specs.Next.{requesting, offering, onTimer};
-ghost use Rattle.machine_timer.specs.Timer.{machineTimer};
+ghost use Rattle.machine_record.specs.Record.{requesting, offering};
+ghost use Rattle.machine_timer.specs.Timer.{onTimer, machineTimer};
 use buffer::Written;
-use machine_next::Machine;
-use machine_next::Settings;
-use machine_next::Stepped;
+use machine_record::Machine;
+use machine_record::Settings;
+use machine_record::Stepped;
 
 // Code 8, asked for by Requesting.
 fn ask_load(settings: Settings, reply: &mut [u8]) -> Written
@@ -57,16 +57,16 @@ fn on_timer(settings: Settings, machine: Machine, size: usize, reply: &mut [u8])
         let answer = ask_dump(settings, size as u32, reply);
         return Stepped { machine, answer };
     }
-    machine_next::refused(machine, 0)
+    machine_record::refused(machine, 0)
 }
 
 // A step on a timer.
 pub fn timer(settings: Settings, machine: Machine, memory: &[u8], reply: &mut [u8]) -> Stepped
     ensures { λ r. ⌜ Leaves (machineTimer settings machine (now (memory .entry)) (now (reply .entry))) (r .machine) (r .answer) (now (memory .entry)) (now (reply .exit)) ⌝ }
 {
-    let n = machine_next::refusal(settings, machine, memory.len(), reply.len());
+    let n = machine_checks::refusal(settings, machine, memory.len(), reply.len());
     if n != 0 {
-        return machine_next::refused(machine, n);
+        return machine_record::refused(machine, n);
     }
     on_timer(settings, machine, memory.len(), reply)
 }
@@ -75,12 +75,22 @@ pub fn timer(settings: Settings, machine: Machine, memory: &[u8], reply: &mut [u
 pub fn start_load(settings: Settings, memory: &[u8], reply: &mut [u8]) -> Stepped
     ensures { λ r. ⌜ Leaves (machineTimer settings requesting (now (memory .entry)) (now (reply .entry))) (r .machine) (r .answer) (now (memory .entry)) (now (reply .exit)) ⌝ }
 {
-    timer(settings, machine_next::in_state(2, 0, 0, 0), memory, reply)
+    timer(
+        settings,
+        machine_record::in_state(2, 0, 0, 0),
+        memory,
+        reply,
+    )
 }
 
 // The start of a dump.
 pub fn start_dump(settings: Settings, memory: &[u8], reply: &mut [u8]) -> Stepped
     ensures { λ r. ⌜ Leaves (machineTimer settings offering (now (memory .entry)) (now (reply .entry))) (r .machine) (r .answer) (now (memory .entry)) (now (reply .exit)) ⌝ }
 {
-    timer(settings, machine_next::in_state(1, 0, 0, 0), memory, reply)
+    timer(
+        settings,
+        machine_record::in_state(1, 0, 0, 0),
+        memory,
+        reply,
+    )
 }

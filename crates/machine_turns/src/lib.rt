@@ -5,8 +5,8 @@ ghost use Rattle.machine.specs.Machine.{machineFrame};
 ghost use Rattle.machine_timer.specs.Timer.{machineTimer};
 ghost use Rattle.queue.specs.Queue.{first};
 ghost use Rattle.host_turns.specs.Turn.{onFirst, Turned};
-use machine_next::Machine;
-use machine_next::Settings;
+use machine_record::Machine;
+use machine_record::Settings;
 use queue::Queue;
 
 // What a turn leaves: the machine's state, the queue of its frames, and the length of the frame in the reply buffer that

@@ -17,10 +17,13 @@ use Rattle.memory.specs.Memory.{fits, bytesFrom}
 use Rattle.directory.specs.Directory.{trailer}
 use Rattle.image.specs.Image.{segmentOf}
 use Rattle.step.specs.Step.{Sending, nothing, sends, Act, first, acts, ignores, gives, call}
-use Rattle.machine_next.specs.declared.Settings.{Settings as MachineSettings}
-use Rattle.machine_next.specs.declared.Machine.{Machine}
-use Rattle.machine_next.specs.Next as machine
-use Rattle.machine_timer.specs.Timer.{machineTimer}
+use Rattle.machine_record.specs.declared.Settings.{Settings as MachineSettings}
+use Rattle.machine_record.specs.declared.Machine.{Machine}
+use Rattle.machine_record.specs.Record as machine
+use Rattle.machine_checks.specs.Checks as machineChecks
+use Rattle.machine_number.specs.Number as machineNumber
+use Rattle.machine_next.specs.Next as machineNext
+use Rattle.machine_timer.specs.Timer.{onTimer as onMachineTimer, machineTimer}
 use Rattle.machine.specs.Machine.{machineFrame}
 use Rattle.load_next.specs.declared.Settings.{Settings as LoadSettings}
 use Rattle.load_next.specs.declared.Session.{Session as LoadSession}
@@ -200,21 +203,21 @@ module _ (s : MachineSettings) (m : Machine) (memory reply : List ℕ) where
   unfolding layout
   replies next after number error = sent-seen machineState m memory reply next after (requestLoad number error) (omega arith)
 
-  loaded : (number address : ℕ) (bytes : List ℕ) (fitted : Machine) → M (machine.onLoad m number address bytes fitted memory)
-  unfolding machine.onLoad machine.byNumber
+  loaded : (number address : ℕ) (bytes : List ℕ) (fitted : Machine) → M (machineNext.onLoad m number address bytes fitted memory)
+  unfolding machineNext.onLoad machineNext.byNumber
   loaded number address bytes fitted =
-      by-cases M (eqb (machine.heed m number) 1) (λ _.
-      by-cases M (fits address (length bytes) (length memory)) (λ _. replies _ _ (machine.after number) 0) (λ _. replies _ _ (machine.after number) 1)) (λ _.
-      by-cases M (eqb (machine.heed m number) 2) (λ _. replies m memory (m .expected) (m .error)) (λ _. idles))
+      by-cases M (eqb (machineNumber.heed m number) 1) (λ _.
+      by-cases M (fits address (length bytes) (length memory)) (λ _. replies _ _ (machineNumber.after number) 0) (λ _. replies _ _ (machineNumber.after number) 1)) (λ _.
+      by-cases M (eqb (machineNumber.heed m number) 2) (λ _. replies m memory (m .expected) (m .error)) (λ _. idles))
 
   pub machine-frame-seen : (frame : List ℕ) → Seen machineState m memory reply (machineFrame s m frame memory reply)
   unfolding layout
   machine-frame-seen frame =
       let f = fields frame in
       let bytes = part frame f in
-      called machineState m memory reply (first (machine.refusal s m (length memory) (length reply) ∷ f .refusal ∷ [])) (machine.react s m f frame memory)
+      called machineState m memory reply (first (machineChecks.refusal s m (length memory) (length reply) ∷ f .refusal ∷ [])) (machineNext.react s m f frame memory)
       (by-cases M (eqb (f .code) 0) (λ _. loaded (f .number) (f .address) bytes (machine.started (f .transfer))) (λ _.
-      by-cases M (eqb (f .code) 2) (λ _. loaded (f .number) (f .address) bytes (machine.loading (machine.after (f .number)) 0)) (λ _.
+      by-cases M (eqb (f .code) 2) (λ _. loaded (f .number) (f .address) bytes (machine.loading (machineNumber.after (f .number)) 0)) (λ _.
       by-cases M (eqb (f .code) 4) (λ _.
       by-cases M (machine.is 0 m || machine.is 1 m) (λ _. sent-seen machineState m memory reply m memory (dumpData (f .address) (bytesFrom memory (f .address) (min (f .count) (s .«reply_bytes»)))) (omega arith)) (λ _. idles)) (λ _.
       by-cases M (eqb (f .code) 1) (λ _. by-cases M (machine.is 1 m) (λ v _ _ e. absurd (omega (arith, eqb-true (m .state) 1 v))) (λ _. idles)) (λ _.
@@ -225,7 +228,7 @@ module _ (s : MachineSettings) (m : Machine) (memory reply : List ℕ) where
   pub machine-timer-seen : Seen machineState m memory reply (machineTimer s m memory reply)
   unfolding layout
   machine-timer-seen =
-      called machineState m memory reply (machine.refusal s m (length memory) (length reply)) (machine.onTimer s m memory)
+      called machineState m memory reply (machineChecks.refusal s m (length memory) (length reply)) (onMachineTimer s m memory)
       (by-cases O (machine.is 2 m) (λ _. sent-seen machineState m memory reply m memory (requestProgram (s .device) 1 2 255 [] (s .processor) []) (omega arith)) (λ _.
       by-cases O (machine.is 1 m) (λ _. sent-seen machineState m memory reply m memory (requestDumpService (s .device) 1 (length memory) 0 []) (omega arith)) (λ _. idles)))
     where

@@ -1,7 +1,7 @@
 // Calls that include/mop.h declares: the steps of both ends, each record by value, for a line driver in C.
 ghost use mathlib.Core.Path.{_≡_};
 ghost use Rattle.step.specs.Step.{Leaves};
-ghost use Rattle.machine_next.specs.Next.{requesting, offering};
+ghost use Rattle.machine_record.specs.Record.{requesting, offering};
 ghost use Rattle.machine_timer.specs.Timer.{machineTimer};
 ghost use Rattle.machine.specs.Machine.{machineFrame};
 ghost use Rattle.load_next.specs.Next.{fresh as freshLoad};
@@ -14,7 +14,7 @@ ghost use Rattle.looptest.specs.Loop.{loopStart, loopFrame, loopTimer};
 
 #[no_mangle]
 pub extern "C" fn mop_machine_start_load(
-    settings: machine_next::Settings,
+    settings: machine_record::Settings,
     memory: &[u8],
     reply: &mut [u8],
 ) -> machine::Stepped
@@ -25,7 +25,7 @@ pub extern "C" fn mop_machine_start_load(
 
 #[no_mangle]
 pub extern "C" fn mop_machine_start_dump(
-    settings: machine_next::Settings,
+    settings: machine_record::Settings,
     memory: &[u8],
     reply: &mut [u8],
 ) -> machine::Stepped
@@ -36,8 +36,8 @@ pub extern "C" fn mop_machine_start_dump(
 
 #[no_mangle]
 pub extern "C" fn mop_machine_frame(
-    settings: machine_next::Settings,
-    machine: machine_next::Machine,
+    settings: machine_record::Settings,
+    machine: machine_record::Machine,
     frame: &[u8],
     memory: &mut [u8],
     reply: &mut [u8],
@@ -49,8 +49,8 @@ pub extern "C" fn mop_machine_frame(
 
 #[no_mangle]
 pub extern "C" fn mop_machine_timer(
-    settings: machine_next::Settings,
-    machine: machine_next::Machine,
+    settings: machine_record::Settings,
+    machine: machine_record::Machine,
     memory: &[u8],
     reply: &mut [u8],
 ) -> machine::Stepped

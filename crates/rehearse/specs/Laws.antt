@@ -6,7 +6,7 @@ use mathlib.Core.Bool.{Bool, true, false}
 use lib.Dec.{eqb}
 use borrow.Author.Tests.{eqb-true, eqb-false, ne-eqb}
 use Rattle.step.specs.Step.{Outcome}
-use Rattle.machine_next.specs.declared.Machine.{Machine}
+use Rattle.machine_record.specs.declared.Machine.{Machine}
 use Rattle.load_next.specs.declared.Session.{Session}
 use Rattle.host_turns.specs.declared.Turn.{Turn as HostTurn}
 use Rattle.host_turns.specs.Turn.{Turned}

@@ -7,7 +7,7 @@ use mathlib.Core.List.{List, [], _∷_, _++_}
 use lib.ListN.{take, drop, replicate}
 use lib.Dec.{eqb}
 use Rattle.step.specs.Step.{Outcome}
-use Rattle.machine_next.specs.declared.Machine.{Machine}
+use Rattle.machine_record.specs.declared.Machine.{Machine}
 use Rattle.machine_timer.specs.Timer.{machineTimer}
 use Rattle.machine.specs.Machine.{machineFrame}
 use Rattle.load_next.specs.declared.Session.{Session}

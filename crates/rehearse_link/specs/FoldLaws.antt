@@ -7,7 +7,9 @@ use lib.ListN.{length, replicate, length-replicate, getD-replicate}
 use Rattle.octets.specs.Number.{Octets}
 use Rattle.image.specs.Image.{cutRefusal}
 use Rattle.image.specs.Laws.{ready}
-use Rattle.machine_next.specs.Next as machine
+use Rattle.machine_record.specs.Record as machine
+use Rattle.machine_checks.specs.Checks as machineChecks
+use Rattle.machine_timer.specs.Timer.{onTimer}
 use Rattle.load_next.specs.declared.Session.{Session}
 use Rattle.queue.specs.Queue.{empty}
 use Rattle.job.specs.declared.Setup.{Setup}
@@ -42,7 +44,7 @@ empty-ring =
     }
 
 module _ (s : Setup) (file old : List ℕ) (ok : cutRefusal file (s .host .«segment_size») ≡ 0) (o : Octets file) (few : s .host .repeats ≤ 255)
-    (fresh : machine.refusal (s .machine) machine.requesting (length old) 1500 ≡ 0) where
+    (fresh : machineChecks.refusal (s .machine) machine.requesting (length old) 1500 ≡ 0) where
   abbrev ends : Ends Session End ⊥
   ends = loadEnds (s .host) (s .machine) file
 
@@ -89,9 +91,9 @@ module _ (s : Setup) (file old : List ℕ) (ok : cutRefusal file (s .host .«seg
     begins =
         let room : Room blank = record { hosts = g; machines = i; reply = l; running = omega arith } in
         let x = steps s file (ready file (s .host .«segment_size») ok .narrow) blank room 0 blank-unrefused 110 in
-        let a = machine.onTimer (s .machine) machine.requesting old in
-        let accepted : machine.refusal (s .machine) machine.requesting (length old) (length reply) ≡ 0 = rw l fresh in
-        let t = told-as machineEnd (machine.refusal (s .machine) machine.requesting (length old) (length reply)) machine.requesting old reply a accepted in
+        let a = onTimer (s .machine) machine.requesting old in
+        let accepted : machineChecks.refusal (s .machine) machine.requesting (length old) (length reply) ≡ 0 = rw l fresh in
+        let t = told-as machineEnd (machineChecks.refusal (s .machine) machine.requesting (length old) (length reply)) machine.requesting old reply a accepted in
         let y : within 16 (machineTurn (world 0 blank) [] (ends .machineTimer (machineEnd machine.requesting old) reply)) ≡ freshWorld (s .machine) old =
         ap (λ (v : Turn End). within 16 (machineTurn (world 0 blank) [] v)) t in
         (x .0, (x .1 .0, sym y ∙ x .1 .1))

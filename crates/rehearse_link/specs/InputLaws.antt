@@ -19,7 +19,8 @@ use Rattle.segments.specs.Segments.{checked as imageChecked}
 use Rattle.script.specs.declared.Script.{Script}
 use Rattle.script.specs.Script.{only, events, checked}
 use Rattle.step.specs.Step.{first}
-use Rattle.machine_next.specs.Next.{requesting, refusal}
+use Rattle.machine_record.specs.Record.{requesting}
+use Rattle.machine_checks.specs.Checks.{refusal}
 use Rattle.job.specs.Job.{setup, imageIn, bytesOf, Reading, withImage, reading}
 use Rattle.rehearse.specs.Rehearse.{lettersOf, fileOf}
 use Rattle.rehearse_cases.specs.AcceptedLaws.{accepted}

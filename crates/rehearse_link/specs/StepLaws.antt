@@ -11,9 +11,10 @@ use Rattle.message.specs.declared.Fields.{Fields}
 use Rattle.message.specs.Read.{fields}
 use Rattle.image.specs.Image.{widest}
 use Rattle.step.specs.Step.{Act, Outcome, first, gives, ignores}
-use Rattle.machine_next.specs.declared.Machine.{Machine}
-use Rattle.machine_next.specs.Next as machine
-use Rattle.machine_timer.specs.Timer.{machineTimer}
+use Rattle.machine_record.specs.declared.Machine.{Machine}
+use Rattle.machine_checks.specs.Checks as machineChecks
+use Rattle.machine_next.specs.Next as machine-next
+use Rattle.machine_timer.specs.Timer.{onTimer, machineTimer}
 use Rattle.machine.specs.Machine.{machineFrame}
 use Rattle.load_next.specs.declared.Session.{Session}
 use Rattle.load_next.specs.Next as load-next
@@ -92,7 +93,7 @@ module _ (s : Setup) (file : List ℕ) (narrow : s .host .«segment_size» ≤ w
 
   -- the refusals of their calls, before a frame is read
   abbrev machineRefusal : ℕ
-  machineRefusal = machine.refusal (s .machine) m (length (r .memory)) (length b)
+  machineRefusal = machineChecks.refusal (s .machine) m (length (r .memory)) (length b)
 
   abbrev hostRefusal : ℕ
   hostRefusal = load.refusal (s .host) h file b
@@ -169,7 +170,7 @@ module _ (s : Setup) (file : List ℕ) (narrow : s .host .«segment_size» ≤ w
   -- ---- timers
   machine-timed : P (machineMoves r (machineTimed s r)) (own (link.machineTimer b) ∷ [])
   machine-timed =
-      let a = machine.onTimer (s .machine) m (r .memory) in
+      let a = onTimer (s .machine) m (r .memory) in
       machine-acts (machineTimed s r) a (given machineEnd machineRefusal m (r .memory) b a (u .machineTimer b room-left)) (timer-runs (s .machine) m (r .memory) (room .running))
       from-host (room .hosts) (link.machineTimer b) refl
 
@@ -203,7 +204,7 @@ module _ (s : Setup) (file : List ℕ) (narrow : s .host .«segment_size» ≤ w
       some : 0 < from-host .many → P (machineStep (machineHanded s r) q) (own e ∷ [])
       some z =
           let f = first-host in
-          let react : Fields → Act Machine (List ℕ) = λ x. machine.react (s .machine) m x f (r .memory) in
+          let react : Fields → Act Machine (List ℕ) = λ x. machine-next.react (s .machine) m x f (r .memory) in
           let accepted = u .machineFrame f (frames (leave from-host) (r .hostPlaces)) b (leaves from-host (r .hostPlaces) z) room-left in
           let bytes : length f ≡ 0 → ⊥ = λ k. accepted (no-bytes machineEnd machineRefusal f m (r .memory) b react k) in
           let handed : machineHanded s r ≡ machineFrame (s .machine) m f (r .memory) b = rw (ne-eqb (length f) 0 bytes) in

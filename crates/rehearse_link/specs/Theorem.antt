@@ -10,7 +10,8 @@ use mathlib.Core.Path.{_≡_, ap, sym, subst, _∙_}
 use mathlib.Core.List.{List, _++_, append-assoc}
 use lib.ListN.{length, replicate, length-replicate}
 use borrow.Author.Tests.{eq-eqb}
-use Rattle.machine_next.specs.Next as machine
+use Rattle.machine_record.specs.Record as machine
+use Rattle.machine_checks.specs.Checks as machineChecks
 use Rattle.load_next.specs.declared.Session.{Session}
 use Rattle.job.specs.Run.{begin, beginLine, endLine}
 use Rattle.rehearse.specs.Rehearse.{fresh, places, lettersOf, transcript}
@@ -32,8 +33,8 @@ module _ (input : List ℕ) (a : Accepted input) where
   pub linked : runWithin 16 (ends input) (freshEnds input) (events input) ≡ worldAtEnd input
   linked =
       let size : length (zeros input) ≡ asked input .job .script .memory = length-replicate {A = ℕ} (asked input .job .script .memory) 0 in
-      let fit : machine.refusal (settings input .machine) machine.requesting (length (zeros input)) 1500 ≡ 0 =
-      ap (λ (n : ℕ). machine.refusal (settings input .machine) machine.requesting n 1500) size ∙ accepted .settings in
+      let fit : machineChecks.refusal (settings input .machine) machine.requesting (length (zeros input)) 1500 ≡ 0 =
+      ap (λ (n : ℕ). machineChecks.refusal (settings input .machine) machine.requesting n 1500) size ∙ accepted .settings in
       whole (settings input) (image input) (zeros input) (accepted .image) (accepted .octets) (accepted .few) fit places places (replicate 1500 0) empty-ring empty-ring
       (length-replicate {A = ℕ} 1500 0) (lettersOf input (asked input .job))
 

@@ -18,9 +18,12 @@ use Rattle.image.specs.Image.{parts, segment, segmentOf, widest}
 use Rattle.memory.specs.Memory.{fits}
 use Rattle.step.specs.Step.{Sending, nothing, sends, Act, Outcome, first, call, frameCall, told, gives}
 use Rattle.step.specs.Laws.{none}
-use Rattle.machine_next.specs.declared.Machine.{Machine}
-use Rattle.machine_next.specs.declared.Settings.{Settings as MachineSettings}
-use Rattle.machine_next.specs.Next.{is, heed, byNumber, onLoad, react, onTimer}
+use Rattle.machine_record.specs.declared.Machine.{Machine}
+use Rattle.machine_record.specs.declared.Settings.{Settings as MachineSettings}
+use Rattle.machine_record.specs.Record.{is}
+use Rattle.machine_number.specs.Number.{heed}
+use Rattle.machine_next.specs.Next.{byNumber, onLoad, react}
+use Rattle.machine_timer.specs.Timer.{onTimer}
 use Rattle.load_next.specs.declared.Next.{Next}
 use Rattle.load.specs.Load.{frames, does}
 use Rattle.load.specs.Laws.{numbered-short}

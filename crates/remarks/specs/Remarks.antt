@@ -7,7 +7,7 @@ use lib.Dec.{eqb, ltb}
 use Rattle.message.specs.Read.{fields}
 use Rattle.text.specs.Text.{chars}
 use Rattle.hexadecimal.specs.Hexadecimal.{pairs}
-use Rattle.machine_next.specs.Next.{is}
+use Rattle.machine_record.specs.Record.{is}
 use Rattle.queue.specs.declared.Queue.{Queue}
 use Rattle.queue.specs.Queue.{isFull, lengthOf}
 use Rattle.words.specs.declared.Words.{Words}

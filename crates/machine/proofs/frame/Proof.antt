@@ -6,7 +6,7 @@ use Rattle.message.specs.declared.Fields.{Fields}
 use Rattle.message.specs.Laws.{fields-inside}
 use Rattle.step.specs.Laws.{frame-call-refused, frame-refused, frame-accepted}
 use Rattle.machine_next.specs.Next.{react}
-use Rattle.machine_next.specs.Laws.{in-range}
+use Rattle.machine_checks.specs.Laws.{in-range}
 use Rattle.machine.specs.Laws.{decided-short, decided-leaves}
 use borrow.Author.Needs.{needs}
 use Rattle.machine.proofs.frame.Statement.{statement}

@@ -2,8 +2,10 @@ use borrow.Author.Tests.{eq-eqb, ne-eqb}
 use native.Mathlib.Omega.{arith}
 use Prim.Native.Nat.{min}
 use mathlib.Core.Bool.{_||_, false}
+use Rattle.machine_record.specs.Record.{is, idle, started, loading}
+use Rattle.machine_number.specs.Number.{after}
 use Rattle.machine_next.specs.declared.Sends.the-variants.{Nothing, Data, Looped}
-use Rattle.machine_next.specs.Next.{is, idle, next, started, loading, after}
+use Rattle.machine_next.specs.Next.{next}
 use Rattle.machine_next.specs.Laws.{chosen, does-load}
 use borrow.Author.Needs.{needs}
 use Rattle.machine_next.proofs.react.Statement.{statement}

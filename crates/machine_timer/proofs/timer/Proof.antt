@@ -1,8 +1,8 @@
 use mathlib.Core.Path.{refl, sym, _∙_}
 use lib.ListN.{length}
 use Rattle.step.specs.Laws.{call-refused, call-accepted}
-use Rattle.machine_next.specs.Next.{onTimer}
-use Rattle.machine_next.specs.Laws.{in-range}
+use Rattle.machine_checks.specs.Laws.{in-range}
+use Rattle.machine_timer.specs.Timer.{onTimer}
 use borrow.Author.Needs.{needs}
 use Rattle.machine_timer.proofs.timer.Statement.{statement}
 use Rattle.machine_timer.proofs.timer.Tie as tie

@@ -1,7 +1,7 @@
 use borrow.Author.Tests.{le-leb, lt-leb}
 use Rattle.step.specs.Step.{first}
-use Rattle.machine_next.proofs.refusal.Statement.{statement}
-use Rattle.machine_next.proofs.refusal.Tie as tie
+use Rattle.machine_checks.proofs.refusal.Statement.{statement}
+use Rattle.machine_checks.proofs.refusal.Tie as tie
 
 returns : tie.Need-returns
 unfolding first

@@ -1,8 +1,8 @@
 use borrow.Author.Tests.{eq-eqb, ne-eqb}
 use mathlib.Core.Path.{sym, _∙_}
 use borrow.Author.Needs.{needs}
-use Rattle.machine_next.proofs.heed.Statement.{statement}
-use Rattle.machine_next.proofs.heed.Tie as tie
+use Rattle.machine_number.proofs.heed.Statement.{statement}
+use Rattle.machine_number.proofs.heed.Tie as tie
 
 returns : tie.Need-returns
 returns c = rw (eq-eqb _ _ (c .if1 .taken))
