@@ -8,9 +8,9 @@ use Rattle.buffer.specs.declared.Written.{Written}
 use Rattle.buffer.specs.Lay.{Came, written}
 use Rattle.message.specs.Write.{sent}
 use Rattle.step.specs.Step.{gives, Leaves}
-use Rattle.load_next.specs.declared.Session.{Session}
-use Rattle.load_next.specs.declared.Next.{Next}
-use Rattle.load.specs.declared.Ruling.{Ruling}
+use Rattle.load_record.specs.declared.Session.{Session}
+use Rattle.load_record.specs.declared.Next.{Next}
+use Rattle.load_checks.specs.declared.Ruling.{Ruling}
 use Rattle.load.specs.Load.{numbered, raised, counted}
 use Rattle.load.specs.Inner.{piece, acting}
 use Rattle.load.proofs.give.Statement.{statement}

@@ -13,7 +13,7 @@ use Rattle.message.specs.Message.{Message, memoryLoadTransfer, memoryLoad}
 use Rattle.message.specs.Write.{write, sent}
 use Rattle.image.specs.PartsLaws.{length-bytes}
 use Rattle.step.specs.Laws.{sent-by}
-use Rattle.load.specs.declared.Ruling.{Ruling}
+use Rattle.load_checks.specs.declared.Ruling.{Ruling}
 use Rattle.load.specs.Load.{numbered}
 use Rattle.load.specs.Laws.{numbered-listed, numbered-short}
 use Rattle.load.specs.Inner.{piece, Sendable}

@@ -1,4 +1,4 @@
--- `load::consistent` meets its contract.
+-- `load_checks::consistent` meets its contract.
 use Prim.Native.Nat.{ℕ, _+_, _*_, _≤_}
 use mathlib.Core.Path.{_≡_}
 use mathlib.Core.Bool.{not}
@@ -6,12 +6,12 @@ use lib.Dec.{eqb}
 use native.Mathlib.Omega.{arith}
 use borrow.Author.Needs.{needs}
 use borrow.Author.Tests.{le-leb, lt-leb, eq-eqb, ne-eqb}
-use Rattle.load_next.specs.declared.Settings.{Settings}
-use Rattle.load_next.specs.declared.Session.{Session}
-use Rattle.load.specs.Load.{consistent}
-use Rattle.load.specs.Laws.{most-sent}
-use Rattle.load.proofs.consistent.Statement.{statement}
-use Rattle.load.proofs.consistent.Tie as tie
+use Rattle.load_record.specs.declared.Settings.{Settings}
+use Rattle.load_record.specs.declared.Session.{Session}
+use Rattle.load_checks.specs.Checks.{consistent}
+use Rattle.load_checks.specs.Laws.{most-sent}
+use Rattle.load_checks.proofs.consistent.Statement.{statement}
+use Rattle.load_checks.proofs.consistent.Tie as tie
 
 module _ (N : ℕ) (s : Settings) (h : Session) (p : h .position ≤ N) (q : h .sent ≤ N * (s .repeats + 1)) where
   finished : h .verdict ≡ 1 → eqb (h .position) N ≡ consistent N s h

@@ -1,8 +1,8 @@
--- `load::sound` meets its contract.
+-- `load_checks::sound` meets its contract.
 use borrow.Author.Needs.{needs}
 use borrow.Author.Tests.{le-leb, lt-leb, eq-eqb, ne-eqb}
-use Rattle.load.proofs.sound.Statement.{statement}
-use Rattle.load.proofs.sound.Tie as tie
+use Rattle.load_checks.proofs.sound.Statement.{statement}
+use Rattle.load_checks.proofs.sound.Tie as tie
 
 returns : tie.Need-returns
 returns c = simp (lt-leb _ _ (c .if1 .taken))

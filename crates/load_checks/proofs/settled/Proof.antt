@@ -1,7 +1,7 @@
--- `load::settled` meets its contract.
+-- `load_checks::settled` meets its contract.
 use borrow.Author.Tests.{le-leb, lt-leb}
-use Rattle.load.proofs.settled.Statement.{statement}
-use Rattle.load.proofs.settled.Tie as tie
+use Rattle.load_checks.proofs.settled.Statement.{statement}
+use Rattle.load_checks.proofs.settled.Tie as tie
 
 returns : tie.Need-returns
 returns c = simp (lt-leb _ _ (c .if1 .taken))

@@ -1,8 +1,8 @@
--- `load_next::on_timer` meets its contract.
+-- `load_timer::on_timer` meets its contract.
 use borrow.Author.Needs.{needs}
 use borrow.Author.Tests.{eq-eqb, ne-eqb, lt-ltb, le-ltb}
-use Rattle.load_next.proofs.on_timer.Statement.{statement}
-use Rattle.load_next.proofs.on_timer.Tie as tie
+use Rattle.load_timer.proofs.on_timer.Statement.{statement}
+use Rattle.load_timer.proofs.on_timer.Tie as tie
 
 ignored-requires : tie.Need-ignored-requires
 ignored-requires c κs = search needs

@@ -1,4 +1,4 @@
--- `load::rule` meets its contract.
+-- `load_checks::rule` meets its contract.
 use Prim.Native.Nat.{ℕ, _≤_, _<_}
 use mathlib.Core.Path.{_≡_, sym, _∙_}
 use mathlib.Core.Bool.{Bool, true, false, not}
@@ -13,14 +13,13 @@ use Rattle.image.specs.Image.{surveyed}
 use Rattle.directory.specs.Directory.{refusal as imageRefusal}
 use Rattle.image.specs.Laws.{agrees, survey-refusal, many-range}
 use Rattle.step.specs.Step.{first}
-use Rattle.load_next.specs.declared.Settings.{Settings}
-use Rattle.load_next.specs.declared.Session.{Session}
-use Rattle.load.specs.declared.Ruling.{Ruling}
-use Rattle.load.specs.Load.{settled, sound, consistent, refusal}
-use Rattle.load.specs.Laws.{set, cut-image}
-use Rattle.load.specs.Inner.{Ruled}
-use Rattle.load.proofs.rule.Statement.{statement}
-use Rattle.load.proofs.rule.Tie as tie
+use Rattle.load_record.specs.declared.Settings.{Settings}
+use Rattle.load_record.specs.declared.Session.{Session}
+use Rattle.load_checks.specs.declared.Ruling.{Ruling}
+use Rattle.load_checks.specs.Checks.{settled, sound, consistent, refusal, Ruled}
+use Rattle.load_checks.specs.Laws.{set, cut-image}
+use Rattle.load_checks.proofs.rule.Statement.{statement}
+use Rattle.load_checks.proofs.rule.Tie as tie
 
 -- what a test's answer says
 holds : {x y : Bool} → x ≡ y → not x ≡ false → y ≡ true

@@ -1,11 +1,11 @@
--- `load::blank` meets its contract.
+-- `load_checks::blank` meets its contract.
 use mathlib.Core.Path.{_≡_}
 use lib.Dec.{eqb}
 use borrow.Author.Tests.{eq-eqb, ne-eqb}
-use Rattle.load_next.specs.declared.Session.{Session}
-use Rattle.load.specs.Load.{blank}
-use Rattle.load.proofs.blank.Statement.{statement}
-use Rattle.load.proofs.blank.Tie as tie
+use Rattle.load_record.specs.declared.Session.{Session}
+use Rattle.load_checks.specs.Checks.{blank}
+use Rattle.load_checks.proofs.blank.Statement.{statement}
+use Rattle.load_checks.proofs.blank.Tie as tie
 
 the-rest : (h : Session) → h .verdict ≡ 0 → h .position ≡ 0 → h .repeats ≡ 0 → eqb (h .sent) 0 ≡ blank h
 the-rest h v p r = simp (eq-eqb _ _ v, eq-eqb _ _ p, eq-eqb _ _ r)
