@@ -8,7 +8,7 @@ ghost use Rattle.directory.specs.Directory.{addresses};
 ghost use Rattle.step.specs.Step.{gives, Leaves};
 ghost use Rattle.load_record.specs.Record.{fresh};
 ghost use Rattle.load_next.specs.Inner.{ahead};
-ghost use Rattle.load.specs.Load.{numbered, counted, loadFrame, loadTimer};
+ghost use Rattle.load.specs.Load.{numbered, loadFrame, loadTimer};
 ghost use Rattle.load.specs.Inner.{piece, acting, Sendable};
 use buffer::Written;
 use load_checks::Ruling;
@@ -41,19 +41,6 @@ fn ahead(session: Session) -> u64
     octets::lesser(session.position, directory::ADDRESSES) + 1
 }
 
-// The record, with the frame counted that goes out.
-fn counted(next: Next) -> Session
-    requires { ⌜ next .session .sent ≤ 256 * addresses ⌝ }
-    ensures { λ r. ⌜ r ≡ counted next ⌝ }
-{
-    let mut session = next.session;
-    if next.sends {
-        session.sent = session.sent + 1;
-        return session;
-    }
-    session
-}
-
 // Writes frame `index` of the load: a segment, as code 0 if it is the last, else as code 2.
 fn send(file: &[u8], index: u64, k: Ruling, reply: &mut [u8]) -> Written
     requires { ⌜ Sendable (now file) index k (now reply) ⌝ }
@@ -76,8 +63,9 @@ fn give(file: &[u8], k: Ruling, next: Next, reply: &mut [u8]) -> Stepped
         × (next .sends ≡ true → Sendable (now file) (next .session .position) k (now reply)) ⌝ }
     ensures { λ r. ⌜ Leaves (gives (acting (now (file .entry)) k next) (now (reply .entry))) (r .session) (r .answer) tt (now (reply .exit)) ⌝ }
 {
-    let session = counted(next);
+    let mut session = next.session;
     if next.sends {
+        session.sent = session.sent + 1;
         return Stepped {
             session,
             answer: send(file, session.position, k, reply),
