@@ -1,6 +1,7 @@
 // The record of the host's end of a load, and its named updates (PROTOCOL 5, 'Host end').
 ghost use mathlib.Core.Path.{_≡_};
-ghost use Rattle.load_record.specs.Record.{fresh, reached, ignores, goesOut, ends, more};
+ghost use Prim.Native.Nat.{_<_};
+ghost use Rattle.load_record.specs.Record.{fresh, reached, repeated, ignores, goesOut, ends, more};
 
 // Its settings: S, the bytes of a segment, and R, the repeats allowed per frame.
 #[repr(C)]
@@ -47,6 +48,18 @@ pub fn reached(h: Session, position: u64) -> Session
     next.position = position;
     next.repeats = 0;
     next.waiting = 0;
+    next
+}
+
+// One more repeat is used, if there is a number for it.
+pub fn repeated(h: Session) -> Session
+    ensures { λ r. ⌜ (h .repeats < 4294967295 → r ≡ repeated h) ⌝ }
+{
+    if h.repeats == 4294967295 {
+        return h;
+    }
+    let mut next = h;
+    next.repeats = h.repeats + 1;
     next
 }
 

@@ -1,7 +1,5 @@
 // What the host's end of a load does next on a timer (PROTOCOL 5, 'Host end').
 ghost use mathlib.Core.Path.{_≡_};
-ghost use Prim.Native.Nat.{_<_};
-ghost use Rattle.load_record.specs.Record.{repeated};
 ghost use Rattle.load_timer.specs.Timer.{onTimer};
 use load_record::Next;
 use load_record::Session;
@@ -9,16 +7,7 @@ use load_record::ends;
 use load_record::goes_out;
 use load_record::ignored;
 use load_record::more;
-
-// One more repeat is used.
-fn repeated(h: Session) -> Session
-    requires { ⌜ h .repeats < 4294967295 ⌝ }
-    ensures { λ r. ⌜ r ≡ repeated h ⌝ }
-{
-    let mut next = h;
-    next.repeats = h.repeats + 1;
-    next
-}
+use load_record::repeated;
 
 // A timer while sending: the frame again if fewer than R repeats are used; else given up, or unconfirmed at the last frame.
 pub fn on_timer(many: u64, limit: u32, session: Session) -> Next

@@ -1,4 +1,5 @@
 -- `load_timer::on_timer` meets its contract.
+use native.Mathlib.Omega.{arith}
 use borrow.Author.Needs.{needs}
 use borrow.Author.Tests.{eq-eqb, ne-eqb, lt-ltb, le-ltb}
 use Rattle.load_timer.proofs.on_timer.Statement.{statement}
@@ -8,13 +9,17 @@ ignored-requires : tie.Need-ignored-requires
 ignored-requires c κs = search needs
 
 returns : tie.Need-returns
-returns c = simp (ne-eqb _ _ (c .before .if1 .taken)) (c .ignored .ensures)
+returns c =
+    let a = c .before .before .before .args in
+    simp (ne-eqb (a .session .verdict) 0 (λ e. omega arith)) (c .ignored .ensures)
 
 ignored-requires-2 : tie.Need-ignored-requires-2
 ignored-requires-2 c κs = search needs
 
 returns-2 : tie.Need-returns-2
-returns-2 c = simp (eq-eqb _ _ (c .before .before .before .if1 .left), ne-eqb _ _ (c .before .if2 .taken)) (c .ignored2 .ensures)
+returns-2 c =
+    let a = c .before .before .before .before .before .args in
+    simp (eq-eqb (a .session .verdict) 0 (omega arith), ne-eqb (a .session .waiting) 0 (λ e. omega arith)) (c .ignored2 .ensures)
 
 repeated-requires : tie.Need-repeated-requires
 repeated-requires c κs = search needs
@@ -24,9 +29,9 @@ goes-out-requires c κs = search needs
 
 returns-3 : tie.Need-returns-3
 returns-3 c =
-    let tests = c .before .before in
-    simp (eq-eqb _ _ (tests .before .before .before .before .if1 .left), eq-eqb _ _ (tests .before .before .if2 .left), lt-ltb _ _ (tests .if3 .taken))
-    (rw (← c .before .repeated .ensures) (c .goes-out .ensures))
+    let a = c .before .before .before .before .before .before .before .before .args in
+    simp (eq-eqb (a .session .verdict) 0 (omega arith), eq-eqb (a .session .waiting) 0 (omega arith), lt-ltb (a .session .repeats) (a .limit) (omega arith))
+    (rw (← c .before .repeated .ensures (omega arith)) (c .goes-out .ensures))
 
 more-requires : tie.Need-more-requires
 more-requires c κs = search needs
@@ -36,8 +41,8 @@ ends-requires c κs = search needs
 
 returns-4 : tie.Need-returns-4
 returns-4 c =
-    let tests = c .before .before .before in
-    simp (eq-eqb _ _ (tests .before .before .before .before .if1 .left), eq-eqb _ _ (tests .before .before .if2 .left), le-ltb _ _ (tests .if3 .left))
+    let a = c .before .before .before .before .before .before .before .before .before .args in
+    simp (eq-eqb (a .session .verdict) 0 (omega arith), eq-eqb (a .session .waiting) 0 (omega arith), le-ltb (a .session .repeats) (a .limit) (omega arith))
     (rw (← c .before .before .more .ensures, c .before .if4 .taken) (c .ends .ensures))
 
 ends-requires-2 : tie.Need-ends-requires-2
@@ -45,8 +50,8 @@ ends-requires-2 c κs = search needs
 
 returns-5 : tie.Need-returns-5
 returns-5 c =
-    let tests = c .before .before .before in
-    simp (eq-eqb _ _ (tests .before .before .before .before .if1 .left), eq-eqb _ _ (tests .before .before .if2 .left), le-ltb _ _ (tests .if3 .left))
+    let a = c .before .before .before .before .before .before .before .before .before .args in
+    simp (eq-eqb (a .session .verdict) 0 (omega arith), eq-eqb (a .session .waiting) 0 (omega arith), le-ltb (a .session .repeats) (a .limit) (omega arith))
     (rw (← c .before .before .more .ensures, c .before .if4 .left) (c .ends2 .ensures))
 
 pub on-timer-spec : {M : Type 1} → statement M
