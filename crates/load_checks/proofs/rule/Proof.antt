@@ -117,7 +117,7 @@ returns-3 : tie.Need-returns-3
 returns-3 c =
     let second = c .before .before in
     let first = second .before .before in
-    no-room (holds (first .before .settled .ensures) (first .if1 .left)) (holds (second .before .sound .ensures) (second .if2 .left)) (c .before .if3 .taken) (c .denied3 .ensures)
+    no-room (holds (first .before .settled .ensures) (first .if1 .left)) (holds (second .before .sound .ensures) (second .if2 .left)) (omega arith) (c .denied3 .ensures)
 
 survey-requires : tie.Need-survey-requires
 survey-requires c κs = search needs
@@ -130,7 +130,7 @@ returns-4 c =
     let surveyed = c .before .before .before in
     let second = surveyed .before .before in
     let first = second .before .before in
-    no-image (holds (first .before .settled .ensures) (first .if1 .left)) (holds (second .before .sound .ensures) (second .if2 .left)) (surveyed .before .if3 .left)
+    no-image (holds (first .before .settled .ensures) (first .if1 .left)) (holds (second .before .sound .ensures) (second .if2 .left)) (omega arith)
     (surveyed .survey .ensures) (c .before .if4 .taken) (c .denied4 .ensures)
 
 consistent-requires : tie.Need-consistent-requires
@@ -150,7 +150,7 @@ returns-5 c =
     let surveyed = accepted .before .before in
     let second = surveyed .before .before in
     let first = second .before .before in
-    inconsistent (holds (first .before .settled .ensures) (first .if1 .left)) (holds (second .before .sound .ensures) (second .if2 .left)) (surveyed .before .if3 .left)
+    inconsistent (holds (first .before .settled .ensures) (first .if1 .left)) (holds (second .before .sound .ensures) (second .if2 .left)) (omega arith)
     (surveyed .survey .ensures) (accepted .if4 .left) (fails (c .before .before .consistent .ensures) (c .before .if5 .taken)) (c .denied5 .ensures)
 
 returns-6 : tie.Need-returns-6
@@ -159,7 +159,7 @@ returns-6 c =
     let surveyed = accepted .before .before in
     let second = surveyed .before .before in
     let first = second .before .before in
-    taken (holds (first .before .settled .ensures) (first .if1 .left)) (holds (second .before .sound .ensures) (second .if2 .left)) (surveyed .before .if3 .left)
+    taken (holds (first .before .settled .ensures) (first .if1 .left)) (holds (second .before .sound .ensures) (second .if2 .left)) (omega arith)
     (surveyed .survey .ensures) (accepted .if4 .left) (holds (c .before .before .consistent .ensures) (c .before .if5 .left))
 
 pub rule-spec : {M : Type 1} → statement M
