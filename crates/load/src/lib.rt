@@ -47,14 +47,13 @@ fn send(file: &[u8], index: u64, k: Ruling, reply: &mut [u8]) -> Written
     ensures { λ r. ⌜ Came (sent (numbered (k .many) (k .transfer) index (piece (now (file .entry)) (k .segment))) (now (reply .entry))) r (now (reply .exit)) ⌝ }
 {
     let number = (index % 256) as u8;
-    let segment = k.segment;
-    let at = segment.place as usize;
-    let end = at + segment.length as usize;
+    let at = k.segment.place as usize;
+    let end = at + k.segment.length as usize;
     let bytes = &file[at..end];
     if index + 1 == k.many {
-        return writer::memory_load_transfer(number, segment.address, bytes, k.transfer, reply);
+        return writer::memory_load_transfer(number, k.segment.address, bytes, k.transfer, reply);
     }
-    writer::memory_load(number, segment.address, bytes, reply)
+    writer::memory_load(number, k.segment.address, bytes, reply)
 }
 
 // Answers with what the host does next, and with its frame if it sends one.
