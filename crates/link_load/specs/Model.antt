@@ -9,9 +9,9 @@ use Rattle.directory.specs.Directory.{trailer, regions}
 use Rattle.image.specs.Image.{many, segmentOf}
 use Rattle.machine_record.specs.declared.Settings.{Settings as MachineSettings}
 use Rattle.machine_record.specs.Record as machine
-use Rattle.load_next.specs.declared.Session.{Session}
-use Rattle.load_next.specs.declared.Settings.{Settings as LoadSettings}
-use Rattle.load_next.specs.Next.{fresh}
+use Rattle.load_record.specs.declared.Session.{Session}
+use Rattle.load_record.specs.declared.Settings.{Settings as LoadSettings}
+use Rattle.load_record.specs.Record.{fresh}
 use Rattle.load.specs.Load.{loadFrame, loadTimer}
 use Rattle.link.specs.Link.{turned, Ends, World, Event, run}
 use Rattle.link.specs.MachineEnd.{End, endsWith, freshWith}

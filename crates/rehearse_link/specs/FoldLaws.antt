@@ -10,7 +10,7 @@ use Rattle.image.specs.Laws.{ready}
 use Rattle.machine_record.specs.Record as machine
 use Rattle.machine_checks.specs.Checks as machineChecks
 use Rattle.machine_timer.specs.Timer.{onTimer}
-use Rattle.load_next.specs.declared.Session.{Session}
+use Rattle.load_record.specs.declared.Session.{Session}
 use Rattle.queue.specs.Queue.{empty}
 use Rattle.job.specs.declared.Setup.{Setup}
 use Rattle.job.specs.Run.{Run, run, freshEnds, begin, endLine}

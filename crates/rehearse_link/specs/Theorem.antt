@@ -12,7 +12,7 @@ use lib.ListN.{length, replicate, length-replicate}
 use borrow.Author.Tests.{eq-eqb}
 use Rattle.machine_record.specs.Record as machine
 use Rattle.machine_checks.specs.Checks as machineChecks
-use Rattle.load_next.specs.declared.Session.{Session}
+use Rattle.load_record.specs.declared.Session.{Session}
 use Rattle.job.specs.Run.{begin, beginLine, endLine}
 use Rattle.rehearse.specs.Rehearse.{fresh, places, lettersOf, transcript}
 use Rattle.link.specs.Link.{World, Event, run}

@@ -24,8 +24,9 @@ use Rattle.machine_record.specs.Record.{is}
 use Rattle.machine_number.specs.Number.{heed}
 use Rattle.machine_next.specs.Next.{byNumber, onLoad, react}
 use Rattle.machine_timer.specs.Timer.{onTimer}
-use Rattle.load_next.specs.declared.Next.{Next}
-use Rattle.load.specs.Load.{frames, does}
+use Rattle.load_record.specs.declared.Next.{Next}
+use Rattle.load_checks.specs.Checks.{frames}
+use Rattle.load.specs.Load.{does}
 use Rattle.load.specs.Laws.{numbered-short}
 use Rattle.host_turns.specs.Turn.{frameOf}
 use Rattle.link.specs.Link.{Frame, refuses, acts, turned, queued}
