@@ -10,11 +10,11 @@ ghost use Rattle.step.specs.Step.{gives, Leaves};
 ghost use Rattle.dump_next.specs.Next.{fresh, place, asked};
 ghost use Rattle.dump.specs.Dump.{counted, filled, does, dumpFrame, dumpTimer};
 ghost use Rattle.dump.specs.Inner.{Room, Ready};
+use buffer::Written;
 use dump_next::Next;
 use dump_next::Sends;
 use dump_next::Session;
 use dump_next::Settings;
-use buffer::Written;
 
 // What a step gives: the next record, and the length of the frame to send, 0 for none, or a refusal.
 #[repr(C)]

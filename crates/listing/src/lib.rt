@@ -10,9 +10,9 @@ ghost use Rattle.hexadecimal.specs.Hexadecimal.{spelled};
 ghost use Rattle.hexadecimal.specs.Line.{held, ended};
 ghost use Rattle.listing.specs.Frame.{programRow, formRow, reasonRow, numbers, patterns};
 ghost use Rattle.listing.specs.Listing.{printed, fed, closed, Feeds};
+use buffer::Written;
 use hexadecimal::Line;
 use message::Fields;
-use buffer::Written;
 
 // The row of the words behind a program type.
 fn program_row(program: u8) -> usize

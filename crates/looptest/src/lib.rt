@@ -5,9 +5,9 @@ ghost use lib.ListN.{length};
 ghost use Rattle.buffer.specs.Lay.{written, refused};
 ghost use Rattle.step.specs.Step.{gives, Leaves};
 ghost use Rattle.looptest.specs.Loop.{begun, counted, refusal, goesOut, loopStart, loopFrame, loopTimer};
+use buffer::Written;
 use looptest_next::Session;
 use looptest_next::Settings;
-use buffer::Written;
 
 // What a step gives: the next record, and the length of the frame to send, 0 for none, or a refusal.
 #[repr(C)]

@@ -12,12 +12,12 @@ ghost use Rattle.step.specs.Step.{acts, gives, Leaves};
 ghost use Rattle.machine_next.specs.Next.{sending};
 ghost use Rattle.machine.specs.Machine.{machineFrame};
 ghost use Rattle.machine.specs.Inner.{Short};
+use buffer::Written;
 pub use machine_next::Machine;
 use machine_next::Sends;
 pub use machine_next::Settings;
 pub use machine_next::Stepped;
 use message::Fields;
-use buffer::Written;
 
 // Code 26: the frame's data again.
 fn looped(f: Fields, frame: &[u8], reply: &mut [u8]) -> Written

@@ -9,8 +9,8 @@ ghost use Rattle.message.specs.Read.{part};
 ghost use Rattle.machine_next.specs.declared.Sends.the-variants.{Nothing, Data, Looped};
 ghost use Rattle.machine_next.specs.Next.{inState, idle, is, after, heed, react, refusal, next, does};
 ghost use Rattle.machine_next.specs.Inner.{taken, heeded};
-use message::Fields;
 use buffer::Written;
+use message::Fields;
 
 // Its settings: D, the most bytes of a dump reply; its device and processor.
 #[repr(C)]

@@ -9,10 +9,10 @@ ghost use Rattle.message.specs.Write.{sent};
 ghost use Rattle.step.specs.Step.{gives, Leaves};
 ghost use Rattle.machine_next.specs.Next.{requesting, offering, onTimer};
 ghost use Rattle.machine_timer.specs.Timer.{machineTimer};
+use buffer::Written;
 use machine_next::Machine;
 use machine_next::Settings;
 use machine_next::Stepped;
-use buffer::Written;
 
 // Code 8, asked for by Requesting.
 fn ask_load(settings: Settings, reply: &mut [u8]) -> Written

@@ -5,8 +5,8 @@ ghost use Rattle.message.specs.Message.{memoryLoadTransfer, memoryLoad, request
 ghost use Rattle.message.specs.Read.{fields};
 ghost use Rattle.message.specs.Write.{write};
 ghost use Rattle.segments.specs.Segments.{checked, found};
-use message::Fields;
 use buffer::Written;
+use message::Fields;
 use segments::Image;
 use segments::Segment;
 

@@ -4,8 +4,8 @@ ghost use mathlib.Core.Path.{_≡_};
 ghost use Rattle.buffer.specs.Lay.{Came};
 ghost use Rattle.text.specs.Text.{placed};
 ghost use Rattle.remarks.specs.Remarks.{besideLine, notedLine, silentRow, sentWords, remark, fullBefore, lost, meaning, reason};
-use job::Ends;
 use buffer::Written;
+use job::Ends;
 use words::Words;
 
 // A letter and bytes in hexadecimal, and words beside them, from column 24 on or two places behind the bytes.

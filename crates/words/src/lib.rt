@@ -4,8 +4,8 @@ ghost use mathlib.Core.Bool.{cond};
 ghost use Rattle.buffer.specs.Lay.{Came};
 ghost use Rattle.text.specs.Text.{placed};
 ghost use Rattle.words.specs.Words.{phrase, frameRow, frameWords, lineRow, machineRow, hostRow, refusalRow, reportRow, further, reportWords, spoken};
-use message::Fields;
 use buffer::Written;
+use message::Fields;
 
 // A frame for which there is no place.
 pub const FULL: usize = 13;

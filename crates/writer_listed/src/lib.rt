@@ -3,8 +3,8 @@ ghost use mathlib.Core.Path.{_≡_};
 ghost use Rattle.buffer.specs.Lay.{Came};
 ghost use Rattle.message.specs.Message.{requestProgram, parameters};
 ghost use Rattle.message.specs.Write.{write, idFits, whole};
-use entries_next::Place;
 use buffer::Written;
+use entries_next::Place;
 
 // Code 8, request program. The id has exactly the length that the form says.
 pub fn request_program(
