@@ -17,7 +17,7 @@ use Rattle.step.specs.Step.{first, sends}
 use Rattle.directory.specs.Directory.{trailerOf, entryOf, entries, demand, entriesRefusal}
 use Rattle.image.specs.Image.{many, segment}
 use Rattle.machine_next.specs.Next.{byNumber, onLoad}
-use Rattle.load_next.specs.declared.Session.{Session}
+use Rattle.load_record.specs.declared.Session.{Session}
 use Rattle.load.specs.Load.{raised}
 use Rattle.link.specs.Link.{Frame, Turn, refuses, acts, queued, Ends, World, Event, own, handToMachine, handToHost, withToHost, run}
 use Rattle.link.specs.MachineEnd.{End, machineEnd}

@@ -4,8 +4,8 @@ ghost use mathlib.Core.Bool.{cond};
 ghost use Rattle.load.specs.Load.{loadFrame, loadTimer};
 ghost use Rattle.queue.specs.Queue.{first};
 ghost use Rattle.host_turns.specs.Turn.{onFirst, Turned};
-use load_next::Session;
-use load_next::Settings;
+use load_record::Session;
+use load_record::Settings;
 use queue::Queue;
 
 // What a turn leaves: the host's record, the queue of its frames, and the length of the frame in the reply buffer that it

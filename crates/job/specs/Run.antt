@@ -8,8 +8,8 @@ use Rattle.step.specs.Step.{Outcome}
 use Rattle.machine_next.specs.declared.Machine.{Machine}
 use Rattle.machine_next.specs.Next.{is, requesting}
 use Rattle.machine_timer.specs.Timer.{machineTimer}
-use Rattle.load_next.specs.declared.Session.{Session}
-use Rattle.load_next.specs.Next.{fresh}
+use Rattle.load_record.specs.declared.Session.{Session}
+use Rattle.load_record.specs.Record.{fresh}
 use Rattle.queue.specs.Queue.{empty, sent, keeps}
 use Rattle.transcript.specs.Transcript.{sentLine, lastLine}
 use Rattle.host_turns.specs.Turn.{frameOf}

@@ -8,15 +8,15 @@ ghost use Rattle.text.specs.Text.{placed};
 ghost use Rattle.transcript.specs.Transcript.{badLine};
 ghost use Rattle.job.specs.Job.{setup, job, reading};
 ghost use Rattle.job.specs.Run.{run, freshEnds, begin, beginLine, endLine, Left};
-use load_next::Session;
-use machine_next::Machine;
 use buffer::Written;
+use load_record::Session;
+use machine_next::Machine;
 use queue::Queue;
 use script::Script;
 
 // The settings of both ends.
 pub struct Setup {
-    pub host: load_next::Settings,
+    pub host: load_record::Settings,
     pub machine: machine_next::Settings,
 }
 
@@ -56,7 +56,7 @@ fn prepare(script: Script) -> Setup
     ensures { λ r. ⌜ r ≡ setup script ⌝ }
 {
     Setup {
-        host: load_next::Settings {
+        host: load_record::Settings {
             segment_size: script.segment_size,
             repeats: script.repeats,
         },
@@ -127,7 +127,7 @@ pub fn begin(
     let written = transcript::sent(false, text::part(reply, 0, sent), line);
     Moved {
         ends: Ends {
-            session: load_next::start(),
+            session: load_record::start(),
             machine,
             from_host: queue::empty(),
             from_machine,

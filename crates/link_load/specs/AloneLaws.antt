@@ -7,7 +7,7 @@ use native.Mathlib.Omega.{arith}
 use native.Mathlib.Nat.{add-mul, mul-le-mul-right}
 use lib.Dec.{eqb}
 use borrow.Author.Tests.{eqb-true, eqb-false}
-use Rattle.load_next.specs.declared.Session.{Session}
+use Rattle.load_record.specs.declared.Session.{Session}
 use Rattle.link.specs.Link.{Frame, Turn, Ends}
 use Rattle.link.specs.LinkLaws.{Closed}
 use Rattle.link.specs.AloneLaws.{Keeps, Alone, alone}

@@ -15,10 +15,13 @@ use Rattle.message.specs.Laws.{request-load-fields, request-program-fields}
 use Rattle.step.specs.Step.{first}
 use Rattle.machine_next.specs.declared.Settings.{Settings as MachineSettings}
 use Rattle.machine_next.specs.Next.{asksLoad}
-use Rattle.load_next.specs.declared.Session.{Session}
-use Rattle.load_next.specs.declared.Settings.{Settings}
-use Rattle.load_next.specs.declared.Next.{Next}
+use Rattle.load_record.specs.declared.Session.{Session}
+use Rattle.load_record.specs.declared.Settings.{Settings}
+use Rattle.load_record.specs.declared.Next.{Next}
+use Rattle.load_record.specs.Record as load-record
 use Rattle.load_next.specs.Next as next
+use Rattle.load_timer.specs.Timer as load-timer
+use Rattle.load_checks.specs.Checks as load-checks
 use Rattle.load.specs.Load as load
 use Rattle.link.specs.Link.{Frame, Turn, refuses, acts, queued}
 use Rattle.link.specs.CallLaws.{called, came}
@@ -78,7 +81,7 @@ now x w v = record { waiting = w; position = refl; repeats = refl; verdict = v; 
 
 module _ (s : Settings) (file : List ℕ) where
   abbrev pub N : ℕ
-  N = load.frames file (s .«segment_size»)
+  N = load-checks.frames file (s .«segment_size»)
 
   abbrev pub F : ℕ → Frame
   F i = layout (load.segmentMessage file (s .«segment_size») i)
@@ -92,7 +95,7 @@ module _ (s : Settings) (file : List ℕ) where
       abbrev OnFrame : Next → Type 0
       OnFrame n = Heard N (s .repeats) F h f (does n)
 
-      same : OnFrame (next.ignores h)
+      same : OnFrame (load-record.ignores h)
       same = ignored h (now h refl refl)
 
       on-request : h .verdict ≡ 0 → OnFrame (next.onRequest h (fields f .program))
@@ -107,7 +110,7 @@ module _ (s : Settings) (file : List ℕ) where
           let w : Sending h = (eqb-true _ _ (z .0), v) in
           by-cases OnFrame (eqb (fields f .error) 0) (λ q.
           let right : Answer f ((h .position + 1) % 256) 0 = (c, eqb-true _ _ (z .1), eqb-true _ _ q) in
-          by-cases OnFrame (next.more N h) (λ l. advances _ w right (ltb-true _ _ l) (now _ refl v))
+          by-cases OnFrame (load-record.more N h) (λ l. advances _ w right (ltb-true _ _ l) (now _ refl v))
           (λ l. finishes _ w right (ltb-false _ _ l) (now _ refl refl)))
           (λ q. rejects _ (fields f .error) w (c, eqb-true _ _ (z .1), refl) (eqb-false _ _ q) (now _ (w .0) refl))) (λ _. same)
 
@@ -120,27 +123,27 @@ module _ (s : Settings) (file : List ℕ) where
       pub heard : (b : List ℕ) → Heard N (s .repeats) F h f (hostTurned (load.loadFrame s h file f b))
       heard b =
           came (Heard N (s .repeats) F h f) _ _ _
-          (called hostEnd (first (load.refusal s h file b ∷ fields f .refusal ∷ [])) h tt b (load.does file (s .«segment_size») (next.react N h (fields f)))) refused on-fields
+          (called hostEnd (first (load-checks.refusal s h file b ∷ fields f .refusal ∷ [])) h tt b (load.does file (s .«segment_size») (next.react N h (fields f)))) refused on-fields
 
     abbrev OnTimer : Next → Type 0
     OnTimer n = Timed N (s .repeats) F h (does n)
 
-    idle : OnTimer (next.ignores h)
+    idle : OnTimer (load-record.ignores h)
     idle = ignored h (now h refl refl)
 
-    ends : Sending h → s .repeats ≤ h .repeats → (more : Bool) → next.more N h ≡ more → OnTimer (next.ends h (pick more 3 4))
+    ends : Sending h → s .repeats ≤ h .repeats → (more : Bool) → load-record.more N h ≡ more → OnTimer (load-record.ends h (pick more 3 4))
     ends w r true l = givesUp _ w r (ltb-true _ _ l) (now _ (w .0) refl)
     ends w r false l = unconfirmed _ w r (ltb-false _ _ l) (now _ (w .0) refl)
 
-    on-timer : OnTimer (next.onTimer N (s .repeats) h)
+    on-timer : OnTimer (load-timer.onTimer N (s .repeats) h)
     on-timer =
         by-cases OnTimer (eqb (h .verdict) 0) (λ v.
         by-cases OnTimer (eqb (h .waiting) 0) (λ w.
         let z : Sending h = (eqb-true _ _ w, eqb-true _ _ v) in
         by-cases OnTimer (ltb (h .repeats) (s .repeats)) (λ r. repeats _ z (ltb-true _ _ r) (now _ (z .0) (z .1)))
-        (λ r. ends z (ltb-false _ _ r) (next.more N h) refl)) (λ _. idle)) (λ _. idle)
+        (λ r. ends z (ltb-false _ _ r) (load-record.more N h) refl)) (λ _. idle)) (λ _. idle)
 
     pub timed : (b : List ℕ) → Timed N (s .repeats) F h (hostTurned (load.loadTimer s h file b))
     timed b =
         came (Timed N (s .repeats) F h) _ _ _
-        (called hostEnd (load.refusal s h file b) h tt b (load.does file (s .«segment_size») (next.onTimer N (s .repeats) h))) refused on-timer
+        (called hostEnd (load-checks.refusal s h file b) h tt b (load.does file (s .«segment_size») (load-timer.onTimer N (s .repeats) h))) refused on-timer

@@ -12,7 +12,7 @@ use Rattle.image.specs.Image.{many, cutRefusal}
 use Rattle.image.specs.Laws.{ready}
 use Rattle.directory.specs.Laws.{region-fit}
 use Rattle.image.specs.PartsLaws.{length-bytes}
-use Rattle.load_next.specs.declared.Settings.{Settings}
+use Rattle.load_record.specs.declared.Settings.{Settings}
 use Rattle.link.specs.MachineEnd.{End}
 use Rattle.link.specs.ByteLaws.{is-there, same-byte}
 use Rattle.link_load.specs.Model.{laidOver, FirstIn}

@@ -10,7 +10,7 @@ use lib.Dec.{eqb}
 use borrow.Author.Tests.{eq-eqb, ne-eqb, eqb-true, eqb-false}
 use Rattle.machine_next.specs.declared.Settings.{Settings}
 use Rattle.machine_next.specs.Next as machine
-use Rattle.load_next.specs.declared.Session.{Session}
+use Rattle.load_record.specs.declared.Session.{Session}
 use Rattle.link.specs.MachineEnd.{End}
 use Rattle.link_load.specs.FramesLaws.{Frames, laid, machineAt, At}
 use Rattle.link_load.specs.SenderLaws.{Stage}

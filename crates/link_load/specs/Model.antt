@@ -10,9 +10,9 @@ use Rattle.image.specs.Image.{many, segmentOf}
 use Rattle.step.specs.Step.{Outcome}
 use Rattle.machine_next.specs.declared.Settings.{Settings as MachineSettings}
 use Rattle.machine_next.specs.Next as machine
-use Rattle.load_next.specs.declared.Session.{Session}
-use Rattle.load_next.specs.declared.Settings.{Settings as LoadSettings}
-use Rattle.load_next.specs.Next.{fresh}
+use Rattle.load_record.specs.declared.Session.{Session}
+use Rattle.load_record.specs.declared.Settings.{Settings as LoadSettings}
+use Rattle.load_record.specs.Record.{fresh}
 use Rattle.load.specs.Load.{loadFrame, loadTimer}
 use Rattle.link.specs.Link.{Turn, turned, Ends, World, Event, run}
 use Rattle.link.specs.MachineEnd.{End, endsWith, freshWith}

@@ -24,9 +24,11 @@ use Rattle.machine_next.specs.declared.Machine.{Machine}
 use Rattle.machine_next.specs.declared.Settings.{Settings as MachineSettings}
 use Rattle.machine_next.specs.Next.{requesting}
 use Rattle.machine_next.specs.Next.{after as after-number, refusal as machineRefusal}
-use Rattle.load_next.specs.declared.Session.{Session}
-use Rattle.load_next.specs.declared.Settings.{Settings as LoadSettings}
+use Rattle.load_record.specs.declared.Session.{Session}
+use Rattle.load_record.specs.declared.Settings.{Settings as LoadSettings}
 use Rattle.load_next.specs.Next as next
+use Rattle.load_timer.specs.Timer as load-timer
+use Rattle.load_checks.specs.Checks as load-checks
 use Rattle.load.specs.Load as load
 use Rattle.link.specs.Link.{Frame, World}
 use Rattle.link.specs.CallLaws as call
@@ -42,15 +44,15 @@ use Rattle.link_load.specs.ReportLaws.{fr, load-transfer, Kept}
 
 -- ---- the host's record alone: one with good numbers is none of those that are bad
 module _ (s : LoadSettings) (N : ℕ) (h : Session) (g : Good N (s .repeats) h) where
-  sound : load.sound s h ≡ true
+  sound : load-checks.sound s h ≡ true
   sound = rw (le-leb (h .verdict) 4 (g .verdict), le-leb (h .repeats) (s .repeats) (g .repeats), le-leb (h .waiting) 1 (g .flag), blank)
     where
-      blank : pick (eqb (h .waiting) 1) (load.blank h) true ≡ true
+      blank : pick (eqb (h .waiting) 1) (load-checks.blank h) true ≡ true
       blank =
           by-cases (λ (b : Bool). b ≡ true) (eqb (h .waiting) 1)
           (λ w. let z = g .waiting (eqb-true _ _ w) in rw (eq-eqb _ _ (z .0), eq-eqb _ _ (z .1), eq-eqb _ _ (z .2), eq-eqb _ _ (z .3))) (λ _. refl)
 
-  consistent : load.consistent N s h ≡ true
+  consistent : load-checks.consistent N s h ≡ true
   consistent = rw (le-leb (h .position) N reaches, le-leb (h .sent) (N * (s .repeats + 1)) (bound N (s .repeats) h g), placed)
     where
       reaches : h .position ≤ N
@@ -67,14 +69,14 @@ module _ (s : LoadSettings) (N : ℕ) (h : Session) (g : Good N (s .repeats) h) 
 
 -- so with a reply buffer of 1,500 bytes no call is refused but for its frame
 not-refused : (s : LoadSettings) (file : List ℕ) (h : Session) (reply : List ℕ) → cutRefusal file (s .«segment_size») ≡ 0 → s .repeats ≤ 255
-    → Good (load.frames file (s .«segment_size»)) (s .repeats) h → 1500 ≤ length reply → load.refusal s h file reply ≡ 0
+    → Good (load-checks.frames file (s .«segment_size»)) (s .repeats) h → 1500 ≤ length reply → load-checks.refusal s h file reply ≡ 0
 unfolding first demand
 not-refused s file h reply ok few g l =
     let r = ready file (s .«segment_size») ok in
     let low = le-leb 1 (s .«segment_size») (r .some) in
     let high = le-leb (s .«segment_size») widest (r .narrow) in
     let whole : imageRefusal file ≡ 0 = rw (low, high) at ok in
-    rw (low, high, le-leb (s .repeats) 255 few, sound s (load.frames file (s .«segment_size»)) h g, le-leb 1500 (length reply) l, whole, consistent s (load.frames file (s .«segment_size»)) h g)
+    rw (low, high, le-leb (s .repeats) 255 few, sound s (load-checks.frames file (s .«segment_size»)) h g, le-leb 1500 (length reply) l, whole, consistent s (load-checks.frames file (s .«segment_size»)) h g)
 
 module _
     (s : LoadSettings) (ms : MachineSettings) (file old : List ℕ) (ok : cutRefusal file (s .«segment_size») ≡ 0) (o : Octets file)
@@ -82,7 +84,7 @@ module _
   abbrev t : Frames ms
   t = fr s ms file old ok o
 
-  host-accepted : (reply : List ℕ) → 1500 ≤ length reply → load.refusal s (w .host) file reply ≡ 0
+  host-accepted : (reply : List ℕ) → 1500 ≤ length reply → load-checks.refusal s (w .host) file reply ≡ 0
   host-accepted reply l = not-refused s file (w .host) reply ok few (k .1 .0) l
 
   -- the machine's state and memory length stay within their ranges
@@ -122,11 +124,11 @@ module _
   unrefused =
       record {
         hostFrame = λ f q b e l.
-            call.frame-unrefused hostEnd (load.refusal s (w .host) file b) f (w .host) tt b
-            (λ (x : Fields). load.does file (s .«segment_size») (next.react (load.frames file (s .«segment_size»)) (w .host) x)) (host-accepted b l) (host-read f q e);
+            call.frame-unrefused hostEnd (load-checks.refusal s (w .host) file b) f (w .host) tt b
+            (λ (x : Fields). load.does file (s .«segment_size») (next.react (load-checks.frames file (s .«segment_size»)) (w .host) x)) (host-accepted b l) (host-read f q e);
         hostTimer = λ b l.
-            call.unrefused hostEnd (load.refusal s (w .host) file b) (w .host) tt b
-            (load.does file (s .«segment_size») (next.onTimer (load.frames file (s .«segment_size»)) (s .repeats) (w .host))) (host-accepted b l);
+            call.unrefused hostEnd (load-checks.refusal s (w .host) file b) (w .host) tt b
+            (load.does file (s .«segment_size») (load-timer.onTimer (load-checks.frames file (s .«segment_size»)) (s .repeats) (w .host))) (host-accepted b l);
         machineFrame = λ f q b e l. frame-unrefused ms (w .machine .machine) (w .machine .memory) b f (machine-accepted b l) (machine-read f q e);
         machineTimer = λ b l. timer-unrefused ms (w .machine .machine) (w .machine .memory) b (machine-accepted b l);
       }

@@ -9,8 +9,8 @@ use Rattle.directory.specs.declared.Region.{Region}
 use Rattle.directory.specs.Directory.{trailer, regions}
 use Rattle.image.specs.Image.{many}
 use Rattle.machine_next.specs.Next as machine
-use Rattle.load_next.specs.declared.Session.{Session}
-use Rattle.load_next.specs.declared.Settings.{Settings as LoadSettings}
+use Rattle.load_record.specs.declared.Session.{Session}
+use Rattle.load_record.specs.declared.Settings.{Settings as LoadSettings}
 use Rattle.link.specs.Link.{World}
 use Rattle.link.specs.MachineEnd.{End}
 use Rattle.link_load.specs.Model.{FirstIn}

@@ -9,8 +9,8 @@ use Rattle.octets.specs.Number.{Octets}
 use Rattle.directory.specs.Directory.{regions}
 use Rattle.image.specs.Image.{many, cutRefusal}
 use Rattle.machine_next.specs.declared.Settings.{Settings as MachineSettings}
-use Rattle.load_next.specs.declared.Session.{Session}
-use Rattle.load_next.specs.declared.Settings.{Settings as LoadSettings}
+use Rattle.load_record.specs.declared.Session.{Session}
+use Rattle.load_record.specs.declared.Settings.{Settings as LoadSettings}
 use Rattle.link.specs.Link.{World, Event}
 use Rattle.link.specs.LinkLaws.{Closed, always}
 use Rattle.link.specs.Bounded.{Alike, runWithin}

@@ -7,8 +7,8 @@ use native.Mathlib.Omega.{arith}
 use Rattle.message.specs.Write.{layout}
 use Rattle.machine_next.specs.declared.Settings.{Settings as MachineSettings}
 use Rattle.machine_next.specs.Next.{after}
-use Rattle.load_next.specs.declared.Session.{Session}
-use Rattle.load_next.specs.Next as next
+use Rattle.load_record.specs.declared.Session.{Session}
+use Rattle.load_record.specs.Record as load-record
 use Rattle.link.specs.Link.{Frame, Turn, Ends}
 use Rattle.link.specs.NumberedLaws as numbered
 use Rattle.link.specs.NumberedLaws.{Transfer, Moved, stays, advances, finishes, Ticked, still, resends, Sender}
@@ -120,5 +120,5 @@ module _ {ms : MachineSettings} (fr : Frames ms) (R : ℕ) (old : List ℕ) wher
         ticks = λ p h b g. let x = timed h b in on-timer p h g _ x (on-timed (fr .many) R (fr .some) F h _ (g .good) x);
       }
 
-  pub fresh : Stage (fr .many) R (fr .fit) 0 next.fresh
+  pub fresh : Stage (fr .many) R (fr .fit) 0 load-record.fresh
   fresh = record { good = omega (arith, fr .some); waits = λ _. refl; sends = λ e. absurd (omega arith); unfit = λ e. absurd (omega arith) }

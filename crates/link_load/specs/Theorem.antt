@@ -6,7 +6,7 @@ use mathlib.Core.List.{List}
 use Rattle.octets.specs.Number.{Octets}
 use Rattle.image.specs.Image.{cutRefusal}
 use Rattle.machine_next.specs.declared.Settings.{Settings as MachineSettings}
-use Rattle.load_next.specs.declared.Settings.{Settings as LoadSettings}
+use Rattle.load_record.specs.declared.Settings.{Settings as LoadSettings}
 use Rattle.link.specs.Link.{Event}
 use Rattle.link_load.specs.Model.{after}
 use Rattle.link_load.specs.Report.{Report}

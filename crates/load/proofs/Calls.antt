@@ -9,14 +9,15 @@ use Rattle.message.specs.Message.{Message}
 use Rattle.directory.specs.Directory.{addresses}
 use Rattle.image.specs.Laws.{file-segment}
 use Rattle.step.specs.Step.{Sending, nothing, sends, Act, acts, gives, Leaves}
-use Rattle.load_next.specs.declared.Settings.{Settings}
-use Rattle.load_next.specs.declared.Session.{Session}
-use Rattle.load_next.specs.declared.Next.{Next}
-use Rattle.load_next.specs.Laws.{Bound}
-use Rattle.load.specs.declared.Ruling.{Ruling}
-use Rattle.load.specs.Load.{frames, numbered, segmentMessage, counted, does}
-use Rattle.load.specs.Laws.{Accepted, accepted, most-sent}
-use Rattle.load.specs.Inner.{piece, acting, Ruled, Sendable}
+use Rattle.load_record.specs.declared.Settings.{Settings}
+use Rattle.load_record.specs.declared.Session.{Session}
+use Rattle.load_record.specs.declared.Next.{Next}
+use Rattle.load_record.specs.Laws.{Bound}
+use Rattle.load_checks.specs.declared.Ruling.{Ruling}
+use Rattle.load_checks.specs.Checks.{frames, Ruled}
+use Rattle.load.specs.Load.{numbered, segmentMessage, counted, does}
+use Rattle.load_checks.specs.Laws.{Accepted, accepted, most-sent}
+use Rattle.load.specs.Inner.{piece, acting, Sendable}
 
 same-sending : (b : Bool) (m n : Message) → (b ≡ true → m ≡ n) → _≡_ {A = Sending} (pick b (sends m) nothing) (pick b (sends n) nothing)
 same-sending true m n e = ap sends (e refl)

@@ -1,17 +1,15 @@
 -- What the functions inside the calls answer.
 use Prim.Native.Nat.{ℕ, _+_, _≤_, _<_}
-use mathlib.Core.Path.{_≡_}
 use mathlib.Core.List.{List}
 use lib.ListN.{length}
 use Rattle.directory.specs.declared.Region.{Region}
-use Rattle.directory.specs.Directory.{bytes, trailer, regions}
-use Rattle.image.specs.Image.{Piece, segment, widest}
+use Rattle.directory.specs.Directory.{bytes}
+use Rattle.image.specs.Image.{Piece, widest}
 use Rattle.step.specs.Step.{Act, acts}
-use Rattle.load_next.specs.declared.Settings.{Settings}
-use Rattle.load_next.specs.declared.Session.{Session}
-use Rattle.load_next.specs.declared.Next.{Next}
-use Rattle.load.specs.declared.Ruling.{Ruling}
-use Rattle.load.specs.Load.{frames, numbered, refusal, counted, sending}
+use Rattle.load_record.specs.declared.Session.{Session}
+use Rattle.load_record.specs.declared.Next.{Next}
+use Rattle.load_checks.specs.declared.Ruling.{Ruling}
+use Rattle.load.specs.Load.{numbered, counted, sending}
 
 -- what a region of the file lays into memory
 abbrev pub piece : List ℕ → Region → Piece
@@ -21,13 +19,6 @@ piece file r = record { address = r .address; bytes = bytes file r }
 abbrev pub acting : List ℕ → Ruling → Next → Act Session Unit
 acting file k next =
     acts (counted next) tt (sending next (numbered (k .many) (k .transfer) (next .session .position) (piece file (k .segment))))
-
--- a call's refusal; if it is 0, N, the image's transfer address and segment i
-pub record Ruled (s : Settings) (h : Session) (file reply : List ℕ) (i : ℕ) (k : Ruling) : Type 0 where
-  pub refused : k .refusal ≡ refusal s h file reply
-  pub counted : k .refusal ≡ 0 → k .many ≡ frames file (s .«segment_size»)
-  pub started : k .refusal ≡ 0 → k .transfer ≡ trailer file .transfer
-  pub reached : k .refusal ≡ 0 → k .segment ≡ segment (s .«segment_size») (regions file) i
 
 -- the segment found lies within the file and fits a frame, there is one of that index, and the reply buffer has room for any frame
 pub record Sendable (file : List ℕ) (i : ℕ) (k : Ruling) (reply : List ℕ) : Type 0 where

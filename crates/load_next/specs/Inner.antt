@@ -2,7 +2,7 @@
 use Prim.Native.Nat.{ℕ, _+_}
 use mathlib.Core.Bool.{cond as pick}
 use lib.Dec.{eqb}
-use Rattle.load_next.specs.declared.Session.{Session}
+use Rattle.load_record.specs.declared.Session.{Session}
 
 -- the frame that may go out on a frame: the first, or the one after the frame on its way
 abbrev pub ahead : Session → ℕ

@@ -4,7 +4,7 @@ use mathlib.Core.Path.{_≡_}
 use mathlib.Core.List.{List}
 use Rattle.step.specs.Step.{Outcome, ignores, gives}
 use Rattle.machine_next.specs.declared.Machine.{Machine}
-use Rattle.load_next.specs.declared.Session.{Session as Load}
+use Rattle.load_record.specs.declared.Session.{Session as Load}
 use Rattle.dump_next.specs.declared.Session.{Session as Dump}
 use Rattle.looptest_next.specs.declared.Session.{Session as Loop}
 

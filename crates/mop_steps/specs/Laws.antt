@@ -22,10 +22,13 @@ use Rattle.machine_next.specs.declared.Machine.{Machine}
 use Rattle.machine_next.specs.Next as machine
 use Rattle.machine_timer.specs.Timer.{machineTimer}
 use Rattle.machine.specs.Machine.{machineFrame}
-use Rattle.load_next.specs.declared.Settings.{Settings as LoadSettings}
-use Rattle.load_next.specs.declared.Session.{Session as LoadSession}
-use Rattle.load_next.specs.declared.Next.{Next as LoadNext}
-use Rattle.load_next.specs.Next as load
+use Rattle.load_record.specs.declared.Settings.{Settings as LoadSettings}
+use Rattle.load_record.specs.declared.Session.{Session as LoadSession}
+use Rattle.load_record.specs.declared.Next.{Next as LoadNext}
+use Rattle.load_record.specs.Record as load
+use Rattle.load_next.specs.Next as loadNext
+use Rattle.load_timer.specs.Timer.{onTimer as onLoadTimer}
+use Rattle.load_checks.specs.Checks as loadChecks
 use Rattle.load.specs.Load as loads
 use Rattle.load.specs.Load.{loadFrame, loadTimer}
 use Rattle.dump_next.specs.declared.Settings.{Settings as DumpSettings}
@@ -59,7 +62,7 @@ module _ (s : LoadSettings) (h : LoadSession) (file reply : List ℕ) where
   S = s .«segment_size»
 
   abbrev N : ℕ
-  N = loads.frames file S
+  N = loadChecks.frames file S
 
   abbrev P : LoadNext → Type 0
   P next = Seen loadVerdict h tt reply (gives (loads.does file S next) reply)
@@ -84,7 +87,7 @@ module _ (s : LoadSettings) (h : LoadSession) (file reply : List ℕ) where
   pub load-frame-seen : (frame : List ℕ) → Seen loadVerdict h tt reply (loadFrame s h file frame reply)
   load-frame-seen frame =
       let f = fields frame in
-      called loadVerdict h tt reply (first (loads.refusal s h file reply ∷ f .refusal ∷ [])) (loads.does file S (load.react N h f))
+      called loadVerdict h tt reply (first (loadChecks.refusal s h file reply ∷ f .refusal ∷ [])) (loads.does file S (loadNext.react N h f))
       (by-cases P (eqb (h .verdict) 0) (λ v.
       by-cases P (eqb (f .code) 8) (λ _. by-cases P (eqb (h .waiting) 1 && eqb (f .program) 2) (λ _. goes (load.reached h 0)) (λ _. stays)) (λ _.
       by-cases P (eqb (f .code) 10) (λ _.
@@ -96,7 +99,7 @@ module _ (s : LoadSettings) (h : LoadSession) (file reply : List ℕ) where
 
   pub load-timer-seen : Seen loadVerdict h tt reply (loadTimer s h file reply)
   load-timer-seen =
-      called loadVerdict h tt reply (loads.refusal s h file reply) (loads.does file S (load.onTimer N (s .repeats) h))
+      called loadVerdict h tt reply (loadChecks.refusal s h file reply) (loads.does file S (onLoadTimer N (s .repeats) h))
       (by-cases P (eqb (h .verdict) 0) (λ v.
       by-cases P (eqb (h .waiting) 0) (λ _.
       by-cases P (ltb (h .repeats) (s .repeats)) (λ _. goes (load.repeated h)) (λ _.

@@ -4,7 +4,7 @@ ghost use Rattle.step.specs.Step.{Leaves};
 ghost use Rattle.machine_next.specs.Next.{requesting, offering};
 ghost use Rattle.machine_timer.specs.Timer.{machineTimer};
 ghost use Rattle.machine.specs.Machine.{machineFrame};
-ghost use Rattle.load_next.specs.Next.{fresh as freshLoad};
+ghost use Rattle.load_record.specs.Record.{fresh as freshLoad};
 ghost use Rattle.load.specs.Load.{loadFrame, loadTimer};
 ghost use Rattle.dump_next.specs.Next.{fresh as freshDump};
 ghost use Rattle.dump.specs.Dump.{dumpFrame, dumpTimer};
@@ -62,16 +62,16 @@ pub extern "C" fn mop_machine_timer(
 // The host's load: mop_load of the header.
 
 #[no_mangle]
-pub extern "C" fn mop_load_start() -> load_next::Session
+pub extern "C" fn mop_load_start() -> load_record::Session
     ensures { λ r. ⌜ r ≡ freshLoad ⌝ }
 {
-    load_next::start()
+    load_record::start()
 }
 
 #[no_mangle]
 pub extern "C" fn mop_load_frame(
-    settings: load_next::Settings,
-    session: load_next::Session,
+    settings: load_record::Settings,
+    session: load_record::Session,
     file: &[u8],
     frame: &[u8],
     reply: &mut [u8],
@@ -83,8 +83,8 @@ pub extern "C" fn mop_load_frame(
 
 #[no_mangle]
 pub extern "C" fn mop_load_timer(
-    settings: load_next::Settings,
-    session: load_next::Session,
+    settings: load_record::Settings,
+    session: load_record::Session,
     file: &[u8],
     reply: &mut [u8],
 ) -> load::Stepped

@@ -8,8 +8,8 @@ use buffer::Written;
 
 #[no_mangle]
 pub extern "C" fn mop_load_update_frame(
-    settings: load_next::Settings,
-    session: &mut load_next::Session,
+    settings: load_record::Settings,
+    session: &mut load_record::Session,
     file: &[u8],
     frame: &[u8],
     reply: &mut [u8],
@@ -23,8 +23,8 @@ pub extern "C" fn mop_load_update_frame(
 
 #[no_mangle]
 pub extern "C" fn mop_load_update_timer(
-    settings: load_next::Settings,
-    session: &mut load_next::Session,
+    settings: load_record::Settings,
+    session: &mut load_record::Session,
     file: &[u8],
     reply: &mut [u8],
 ) -> Written

@@ -5,7 +5,7 @@ use mathlib.Core.List.{List}
 use lib.Dec.{eqb}
 use Rattle.step.specs.Step.{Outcome}
 use Rattle.machine_next.specs.declared.Machine.{Machine}
-use Rattle.load_next.specs.declared.Session.{Session}
+use Rattle.load_record.specs.declared.Session.{Session}
 use Rattle.host_turns.specs.declared.Turn.{Turn as HostTurn}
 use Rattle.machine_turns.specs.declared.Turn.{Turn as MachineTurn}
 use Rattle.job.specs.declared.Setup.{Setup}

@@ -7,7 +7,7 @@ use lib.Dec.{eqb}
 use borrow.Author.Tests.{eqb-true, eqb-false, ne-eqb}
 use Rattle.step.specs.Step.{Outcome}
 use Rattle.machine_next.specs.declared.Machine.{Machine}
-use Rattle.load_next.specs.declared.Session.{Session}
+use Rattle.load_record.specs.declared.Session.{Session}
 use Rattle.host_turns.specs.declared.Turn.{Turn as HostTurn}
 use Rattle.host_turns.specs.Turn.{Turned}
 use Rattle.job.specs.declared.Setup.{Setup}

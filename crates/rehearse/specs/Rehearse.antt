@@ -10,7 +10,7 @@ use Rattle.step.specs.Step.{Outcome}
 use Rattle.machine_next.specs.declared.Machine.{Machine}
 use Rattle.machine_timer.specs.Timer.{machineTimer}
 use Rattle.machine.specs.Machine.{machineFrame}
-use Rattle.load_next.specs.declared.Session.{Session}
+use Rattle.load_record.specs.declared.Session.{Session}
 use Rattle.load.specs.Load.{loadFrame, loadTimer}
 use Rattle.queue.specs.Queue.{first, leave}
 use Rattle.transcript.specs.Transcript.{sentLine, badLine}

@@ -8,7 +8,7 @@ use Rattle.octets.specs.Number.{Octets}
 use Rattle.image.specs.Image.{cutRefusal}
 use Rattle.image.specs.Laws.{ready}
 use Rattle.machine_next.specs.Next as machine
-use Rattle.load_next.specs.declared.Session.{Session}
+use Rattle.load_record.specs.declared.Session.{Session}
 use Rattle.queue.specs.Queue.{empty}
 use Rattle.job.specs.declared.Setup.{Setup}
 use Rattle.job.specs.Run.{Run, run, freshEnds, begin, endLine}

@@ -3,7 +3,7 @@ use Prim.Native.Nat.{ℕ}
 use mathlib.Core.Path.{_≡_}
 use mathlib.Core.List.{List}
 use lib.ListN.{replicate}
-use Rattle.load_next.specs.declared.Session.{Session}
+use Rattle.load_record.specs.declared.Session.{Session}
 use Rattle.job.specs.declared.Setup.{Setup}
 use Rattle.job.specs.Job.{Reading, reading}
 use Rattle.job.specs.Run.{Run, begin}

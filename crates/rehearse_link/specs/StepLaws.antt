@@ -15,8 +15,10 @@ use Rattle.machine_next.specs.declared.Machine.{Machine}
 use Rattle.machine_next.specs.Next as machine
 use Rattle.machine_timer.specs.Timer.{machineTimer}
 use Rattle.machine.specs.Machine.{machineFrame}
-use Rattle.load_next.specs.declared.Session.{Session}
+use Rattle.load_record.specs.declared.Session.{Session}
 use Rattle.load_next.specs.Next as load-next
+use Rattle.load_timer.specs.Timer as load-timer
+use Rattle.load_checks.specs.Checks as load-checks
 use Rattle.load.specs.Load as load
 use Rattle.load.specs.Load.{loadFrame}
 use Rattle.queue.specs.declared.Queue.{Queue}
@@ -94,7 +96,7 @@ module _ (s : Setup) (file : List ℕ) (narrow : s .host .«segment_size» ≤ w
   machineRefusal = machine.refusal (s .machine) m (length (r .memory)) (length b)
 
   abbrev hostRefusal : ℕ
-  hostRefusal = load.refusal (s .host) h file b
+  hostRefusal = load-checks.refusal (s .host) h file b
 
   room-left : 1500 ≤ length (r .reply)
   room-left = omega (arith, room .reply)
@@ -174,7 +176,7 @@ module _ (s : Setup) (file : List ℕ) (narrow : s .host .«segment_size» ≤ w
 
   host-timed : P (hostMoves r (hostTimed s r file)) (own (link.hostTimer b) ∷ [])
   host-timed =
-      let next = load-next.onTimer (load.frames file S) (s .host .repeats) h in
+      let next = load-timer.onTimer (load-checks.frames file S) (s .host .repeats) h in
       let a = load.does file S next in
       host-acts (hostTimed s r file) a (given hostEnd hostRefusal h tt b a (u .hostTimer b room-left)) (host-short file S next narrow) from-machine (room .machines) (link.hostTimer b) refl
 
@@ -227,12 +229,12 @@ module _ (s : Setup) (file : List ℕ) (narrow : s .host .«segment_size» ≤ w
       some : 0 < from-machine .many → P (hostStep (hostHanded s r file) q) (own e ∷ [])
       some z =
           let f = first-machine in
-          let react : Fields → Act Session Unit = λ x. load.does file S (load-next.react (load.frames file S) h x) in
+          let react : Fields → Act Session Unit = λ x. load.does file S (load-next.react (load-checks.frames file S) h x) in
           let accepted = u .hostFrame f (frames (leave from-machine) (r .machinePlaces)) b (leaves from-machine (r .machinePlaces) z) room-left in
           let bytes : length f ≡ 0 → ⊥ = λ k. accepted (no-bytes hostEnd hostRefusal f h tt b react k) in
           let handed : hostHanded s r file ≡ loadFrame (s .host) h file f b = rw (ne-eqb (length f) 0 bytes) in
           host-acts (hostHanded s r file) (react (fields f)) (handed ∙ given hostEnd (first (hostRefusal ∷ fields f .refusal ∷ [])) h tt b (react (fields f)) accepted)
-          (host-short file S (load-next.react (load.frames file S) h (fields f)) narrow) q g e
+          (host-short file S (load-next.react (load-checks.frames file S) h (fields f)) narrow) q g e
           (with-one z ∙ ap (λ (x : Outcome Session Unit). hostTurn w (frames q (r .machinePlaces)) (hostTurned x)) (sym handed))
 
   -- ---- it leaves, or is kept

@@ -11,7 +11,7 @@ use mathlib.Core.List.{List, _++_, append-assoc}
 use lib.ListN.{length, replicate, length-replicate}
 use borrow.Author.Tests.{eq-eqb}
 use Rattle.machine_next.specs.Next as machine
-use Rattle.load_next.specs.declared.Session.{Session}
+use Rattle.load_record.specs.declared.Session.{Session}
 use Rattle.job.specs.Run.{begin, beginLine, endLine}
 use Rattle.rehearse.specs.Rehearse.{fresh, places, lettersOf, transcript}
 use Rattle.link.specs.Link.{World, Event, run}

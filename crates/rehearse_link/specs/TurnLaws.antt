@@ -21,8 +21,9 @@ use Rattle.step.specs.Laws.{none}
 use Rattle.machine_next.specs.declared.Machine.{Machine}
 use Rattle.machine_next.specs.declared.Settings.{Settings as MachineSettings}
 use Rattle.machine_next.specs.Next.{is, heed, byNumber, onLoad, react, onTimer}
-use Rattle.load_next.specs.declared.Next.{Next}
-use Rattle.load.specs.Load.{frames, does}
+use Rattle.load_record.specs.declared.Next.{Next}
+use Rattle.load_checks.specs.Checks.{frames}
+use Rattle.load.specs.Load.{does}
 use Rattle.load.specs.Laws.{numbered-short}
 use Rattle.host_turns.specs.Turn.{frameOf}
 use Rattle.link.specs.Link.{Frame, refuses, acts, turned, queued}

@@ -3,7 +3,7 @@ use Prim.Native.Nat.{ℕ}
 use mathlib.Core.Bool.{cond as pick}
 use mathlib.Core.List.{List, [], _∷_, _++_}
 use lib.Dec.{eqb}
-use Rattle.load_next.specs.declared.Session.{Session}
+use Rattle.load_record.specs.declared.Session.{Session}
 use Rattle.job.specs.declared.Setup.{Setup}
 use Rattle.job.specs.Run.{Run}
 use Rattle.rehearse.specs.Rehearse.{event}

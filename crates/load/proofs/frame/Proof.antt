@@ -11,15 +11,17 @@ use Rattle.message.specs.Read.{fields}
 use Rattle.directory.specs.Directory.{addresses}
 use Rattle.step.specs.Step.{Act, gives, Leaves}
 use Rattle.step.specs.Laws.{frame-call-refused, frame-refused, frame-accepted}
-use Rattle.load_next.specs.declared.Settings.{Settings}
-use Rattle.load_next.specs.declared.Session.{Session}
-use Rattle.load_next.specs.declared.Next.{Next}
+use Rattle.load_record.specs.declared.Settings.{Settings}
+use Rattle.load_record.specs.declared.Session.{Session}
+use Rattle.load_record.specs.declared.Next.{Next}
 use Rattle.load_next.specs.Next.{react}
-use Rattle.load_next.specs.Laws.{Bound, react-bound}
+use Rattle.load_record.specs.Laws.{Bound}
+use Rattle.load_next.specs.Laws.{react-bound}
 use Rattle.load_next.specs.Inner.{ahead}
-use Rattle.load.specs.declared.Ruling.{Ruling}
-use Rattle.load.specs.Load.{frames, refusal, does, loadFrame}
-use Rattle.load.specs.Inner.{acting, Ruled}
+use Rattle.load_checks.specs.declared.Ruling.{Ruling}
+use Rattle.load_checks.specs.Checks.{frames, refusal, Ruled}
+use Rattle.load.specs.Load.{does, loadFrame}
+use Rattle.load.specs.Inner.{acting}
 use Rattle.load.proofs.Calls.{facts, goes, ready, given}
 use Rattle.load.proofs.frame.Statement.{statement}
 use Rattle.load.proofs.frame.Tie as tie

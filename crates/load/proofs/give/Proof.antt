@@ -1,6 +1,6 @@
 -- `load::give` meets its contract.
 use Prim.Native.Nat.{ℕ}
-use mathlib.Core.Path.{_≡_, refl, ap}
+use mathlib.Core.Path.{_≡_, refl}
 use mathlib.Core.Bool.{true, false}
 use mathlib.Core.List.{List}
 use borrow.Author.Needs.{needs}
@@ -8,33 +8,29 @@ use Rattle.buffer.specs.declared.Written.{Written}
 use Rattle.buffer.specs.Lay.{Came, written}
 use Rattle.message.specs.Write.{sent}
 use Rattle.step.specs.Step.{gives, Leaves}
-use Rattle.load_next.specs.declared.Session.{Session}
-use Rattle.load_next.specs.declared.Next.{Next}
-use Rattle.load.specs.declared.Ruling.{Ruling}
-use Rattle.load.specs.Load.{numbered, raised, counted}
+use Rattle.load_record.specs.declared.Next.{Next}
+use Rattle.load_checks.specs.declared.Ruling.{Ruling}
+use Rattle.load.specs.Load.{numbered, raised}
 use Rattle.load.specs.Inner.{piece, acting}
 use Rattle.load.proofs.give.Statement.{statement}
 use Rattle.load.proofs.give.Tie as tie
 
-module _ (file : List ℕ) (k : Ruling) (next : Next) (reply : List ℕ) {session : Session} (s : session ≡ counted next) where
+module _ (file : List ℕ) (k : Ruling) (next : Next) (reply : List ℕ) where
   frame : next .sends ≡ true → {answer : Written} {out : List ℕ}
-      → Came (sent (numbered (k .many) (k .transfer) (session .position) (piece file (k .segment))) reply) answer out
-      → Leaves (gives (acting file k next) reply) session answer tt out
-  frame e c =
-      let raise : session ≡ raised (next .session) = rw e at s in
-      let came = rw (ap (λ (h : Session). h .position) raise) at c in
-      rw e (raise, came .0, refl, came .1)
+      → Came (sent (numbered (k .many) (k .transfer) (next .session .position) (piece file (k .segment))) reply) answer out
+      → Leaves (gives (acting file k next) reply) (raised (next .session)) answer tt out
+  frame e c = rw e (refl, c .0, refl, c .1)
 
-  nothing-sent : next .sends ≡ false → Leaves (gives (acting file k next) reply) session (written 0) tt reply
-  nothing-sent e = rw e (rw e at s, refl, refl, refl)
+  nothing-sent : next .sends ≡ false → Leaves (gives (acting file k next) reply) (next .session) (written 0) tt reply
+  nothing-sent e = rw e (refl, refl, refl, refl)
 
-counted-requires : tie.Need-counted-requires
-counted-requires c κs = search needs
+add-session : tie.Need-add-session
+add-session c = search needs
 
 send-requires : tie.Need-send-requires
 send-requires c κs =
-    let e = c .before .if1 .taken in
-    rw (c .before .before .counted .ensures, e) (c .before .before .before .before .before .pre .1 e)
+    let sends = c .before .before in
+    sends .before .before .before .before .pre .1 (sends .if1 .taken)
 
 same-length : tie.Need-same-length
 same-length c = search needs
@@ -42,14 +38,14 @@ same-length c = search needs
 returns : tie.Need-returns
 returns c =
     let given = c .before .before in
-    let counts = given .before .before .before in
-    let a = counts .before .before .before .args in
-    frame (a .file .now) (a .k) (a .next) (a .reply .now) (counts .counted .ensures) (given .before .before .if1 .taken) (given .send .ensures)
+    let sends = given .before .before .before in
+    let a = sends .before .before .before .before .args in
+    frame (a .file .now) (a .k) (a .next) (a .reply .now) (sends .if1 .taken) (given .send .ensures)
 
 returns-2 : tie.Need-returns-2
 returns-2 c =
     let a = c .before .before .before .before .args in
-    nothing-sent (a .file .now) (a .k) (a .next) (a .reply .now) (c .before .counted .ensures) (c .if1 .left)
+    nothing-sent (a .file .now) (a .k) (a .next) (a .reply .now) (c .if1 .left)
 
 pub give-spec : {M : Type 1} → statement M
-give-spec = tie.close (tie.spec counted-requires send-requires same-length returns returns-2)
+give-spec = tie.close (tie.spec add-session send-requires same-length returns returns-2)

@@ -13,7 +13,7 @@ use Rattle.message.specs.Message.{Message, memoryLoadTransfer, memoryLoad}
 use Rattle.message.specs.Write.{write, sent}
 use Rattle.image.specs.PartsLaws.{length-bytes}
 use Rattle.step.specs.Laws.{sent-by}
-use Rattle.load.specs.declared.Ruling.{Ruling}
+use Rattle.load_checks.specs.declared.Ruling.{Ruling}
 use Rattle.load.specs.Load.{numbered}
 use Rattle.load.specs.Laws.{numbered-listed, numbered-short}
 use Rattle.load.specs.Inner.{piece, Sendable}
@@ -52,7 +52,7 @@ cast-end c = search needs
 
 add-end : tie.Need-add-end
 add-end c =
-    let went = c .before .before .before .before .before in
+    let went = c .before .before .before .before in
     omega (arith, went .pre .within, went .good)
 
 sub-bytes : tie.Need-sub-bytes
@@ -62,10 +62,10 @@ part-bytes-start : tie.Need-part-bytes-start
 part-bytes-start c = search needs
 
 part-bytes-end : tie.Need-part-bytes-end
-part-bytes-end c = c .before .before .before .before .before .pre .within
+part-bytes-end c = c .before .before .before .before .pre .within
 
 add-if1 : tie.Need-add-if1
-add-if1 c = omega (arith, c .before .before .before .before .before .before .pre .few)
+add-if1 c = omega (arith, c .before .before .before .before .before .pre .few)
 
 memory-load-transfer-requires : tie.Need-memory-load-transfer-requires
 memory-load-transfer-requires c κs = search needs
@@ -76,7 +76,7 @@ same-length c = search needs
 returns : tie.Need-returns
 returns c =
     let written = c .before .before in
-    let k = written .before .before .before .before .before .before .before .before .before .before in
+    let k = written .before .before .before .before .before .before .before .before .before in
     whole (k .args .file .now) (k .args .index) (k .args .k) (k .pre) (the-last (k .args .file .now) (k .args .index) (k .args .k) (written .before .before .if1 .taken))
     (written .memory-load-transfer .ensures)
 
@@ -89,7 +89,7 @@ same-length-2 c = search needs
 returns-2 : tie.Need-returns-2
 returns-2 c =
     let written = c .before .before in
-    let k = written .before .before .before .before .before .before .before .before .before .before in
+    let k = written .before .before .before .before .before .before .before .before .before in
     whole (k .args .file .now) (k .args .index) (k .args .k) (k .pre) (another (k .args .file .now) (k .args .index) (k .args .k) (written .before .before .if1 .left))
     (written .memory-load .ensures)
 

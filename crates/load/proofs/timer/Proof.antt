@@ -7,14 +7,16 @@ use Rattle.buffer.specs.declared.Written.{Written}
 use Rattle.buffer.specs.Lay.{refused}
 use Rattle.step.specs.Step.{gives, Leaves}
 use Rattle.step.specs.Laws.{call-refused, call-accepted}
-use Rattle.load_next.specs.declared.Settings.{Settings}
-use Rattle.load_next.specs.declared.Session.{Session}
-use Rattle.load_next.specs.declared.Next.{Next}
-use Rattle.load_next.specs.Next.{onTimer}
-use Rattle.load_next.specs.Laws.{Bound, timer-bound}
-use Rattle.load.specs.declared.Ruling.{Ruling}
-use Rattle.load.specs.Load.{frames, refusal, does, loadTimer}
-use Rattle.load.specs.Inner.{acting, Ruled}
+use Rattle.load_record.specs.declared.Settings.{Settings}
+use Rattle.load_record.specs.declared.Session.{Session}
+use Rattle.load_record.specs.declared.Next.{Next}
+use Rattle.load_timer.specs.Timer.{onTimer}
+use Rattle.load_record.specs.Laws.{Bound}
+use Rattle.load_timer.specs.Laws.{timer-bound}
+use Rattle.load_checks.specs.declared.Ruling.{Ruling}
+use Rattle.load_checks.specs.Checks.{frames, refusal, Ruled}
+use Rattle.load.specs.Load.{does, loadTimer}
+use Rattle.load.specs.Inner.{acting}
 use Rattle.load.proofs.Calls.{goes, ready, given}
 use Rattle.load.proofs.timer.Statement.{statement}
 use Rattle.load.proofs.timer.Tie as tie

@@ -1,4 +1,6 @@
 -- `load_next::on_answer` meets its contract.
+use Prim.Native.Nat.{_+_, _%_}
+use native.Mathlib.Omega.{arith}
 use borrow.Author.Needs.{needs}
 use borrow.Author.Tests.{eq-eqb, ne-eqb}
 use Rattle.load_next.proofs.on_answer.Statement.{statement}
@@ -11,23 +13,25 @@ ignored-requires : tie.Need-ignored-requires
 ignored-requires c κs = search needs
 
 returns : tie.Need-returns
-returns c = simp (ne-eqb _ _ (c .before .if1 .taken)) (c .ignored .ensures)
+returns c =
+    let a = c .before .before .before .before .args in
+    simp (ne-eqb (a .h .waiting) 0 (λ e. omega arith)) (c .ignored .ensures)
 
 ignored-requires-2 : tie.Need-ignored-requires-2
 ignored-requires-2 c κs = search needs
 
 returns-2 : tie.Need-returns-2
 returns-2 c =
-    let tests = c .before in
-    simp (← tests .before .before .before .expected .ensures, eq-eqb _ _ (tests .before .if1 .left), ne-eqb _ _ (tests .if2 .taken)) (c .ignored2 .ensures)
+    let a = c .before .before .before .before .before .args in
+    simp (eq-eqb (a .h .waiting) 0 (omega arith), ne-eqb (a .number) ((a .h .position + 1) % 256) (λ e. omega arith)) (c .ignored2 .ensures)
 
 ends-requires : tie.Need-ends-requires
 ends-requires c κs = search needs
 
 returns-3 : tie.Need-returns-3
 returns-3 c =
-    let tests = c .before .before in
-    simp (← tests .before .before .before .expected .ensures, eq-eqb _ _ (tests .before .if1 .left), eq-eqb _ _ (tests .if2 .left), ne-eqb _ _ (c .before .if3 .taken))
+    let a = c .before .before .before .before .before .before .args in
+    simp (eq-eqb (a .h .waiting) 0 (omega arith), eq-eqb (a .number) ((a .h .position + 1) % 256) (omega arith), ne-eqb (a .error) 0 (λ e. omega arith))
     (c .ends .ensures)
 
 answered-requires : tie.Need-answered-requires
@@ -35,8 +39,8 @@ answered-requires c κs = search needs
 
 returns-4 : tie.Need-returns-4
 returns-4 c =
-    let tests = c .before .before in
-    simp (← tests .before .before .before .expected .ensures, eq-eqb _ _ (tests .before .if1 .left), eq-eqb _ _ (tests .if2 .left), eq-eqb _ _ (c .before .if3 .left))
+    let a = c .before .before .before .before .before .before .args in
+    simp (eq-eqb (a .h .waiting) 0 (omega arith), eq-eqb (a .number) ((a .h .position + 1) % 256) (omega arith), eq-eqb (a .error) 0 (omega arith))
     (c .answered .ensures)
 
 pub on-answer-spec : {M : Type 1} → statement M

@@ -1,4 +1,5 @@
 -- `load_next::on_request` meets its contract.
+use native.Mathlib.Omega.{arith}
 use borrow.Author.Needs.{needs}
 use borrow.Author.Tests.{eq-eqb, ne-eqb}
 use Rattle.load_next.proofs.on_request.Statement.{statement}
@@ -8,13 +9,17 @@ ignored-requires : tie.Need-ignored-requires
 ignored-requires c κs = search needs
 
 returns : tie.Need-returns
-returns c = simp (ne-eqb _ _ (c .before .if1 .taken)) (c .ignored .ensures)
+returns c =
+    let a = c .before .before .before .args in
+    simp (ne-eqb (a .h .waiting) 1 (λ e. omega arith)) (c .ignored .ensures)
 
 ignored-requires-2 : tie.Need-ignored-requires-2
 ignored-requires-2 c κs = search needs
 
 returns-2 : tie.Need-returns-2
-returns-2 c = simp (eq-eqb _ _ (c .before .before .if1 .left), ne-eqb _ _ (c .before .if2 .taken)) (c .ignored2 .ensures)
+returns-2 c =
+    let a = c .before .before .before .before .args in
+    simp (eq-eqb (a .h .waiting) 1 (omega arith), ne-eqb (a .program) 2 (λ e. omega arith)) (c .ignored2 .ensures)
 
 reached-requires : tie.Need-reached-requires
 reached-requires c κs = search needs
@@ -24,8 +29,8 @@ goes-out-requires c κs = search needs
 
 returns-3 : tie.Need-returns-3
 returns-3 c =
-    let tests = c .before .before in
-    simp (eq-eqb _ _ (tests .before .if1 .left), eq-eqb _ _ (tests .if2 .left)) (rw (← c .before .reached .ensures) (c .goes-out .ensures))
+    let a = c .before .before .before .before .before .args in
+    simp (eq-eqb (a .h .waiting) 1 (omega arith), eq-eqb (a .program) 2 (omega arith)) (rw (← c .before .reached .ensures) (c .goes-out .ensures))
 
 pub on-request-spec : {M : Type 1} → statement M
 on-request-spec =

@@ -41,13 +41,13 @@ use denote.Exit.{yes}
 use denote.Signature.{plain}
 use Rattle.step.specs.Step.{Leaves}
 use Rattle.load.specs.Load.{loadFrame}
-use Rattle.load_next.specs.declared.Settings.{Settings}
-use Rattle.load_next.specs.declared.Session.{Session}
+use Rattle.load_record.specs.declared.Settings.{Settings}
+use Rattle.load_record.specs.declared.Session.{Session}
 use Rattle.load.specs.declared.Stepped.{Stepped}
-use Rattle.load_next.proofs.Settings as N0
-use Rattle.load_next.proofs.Settings.Laws as N0′
-use Rattle.load_next.proofs.Session as T
-use Rattle.load_next.proofs.Session.Laws as T′
+use Rattle.load_record.proofs.Settings as N0
+use Rattle.load_record.proofs.Settings.Laws as N0′
+use Rattle.load_record.proofs.Session as T
+use Rattle.load_record.proofs.Session.Laws as T′
 use Rattle.load.proofs.Stepped as D
 use Rattle.load.proofs.Stepped.Laws as D′
 use Rattle.buffer.proofs.Written as E

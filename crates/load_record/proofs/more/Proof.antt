@@ -1,10 +1,10 @@
--- `load_next::more` meets its contract.
+-- `load_record::more` meets its contract.
 use Prim.Native.Nat.{_+_}
 use native.Mathlib.Omega.{arith}
 use borrow.Author.Needs.{needs}
 use borrow.Author.Tests.{le-ltb}
-use Rattle.load_next.proofs.more.Statement.{statement}
-use Rattle.load_next.proofs.more.Tie as tie
+use Rattle.load_record.proofs.more.Statement.{statement}
+use Rattle.load_record.proofs.more.Tie as tie
 
 returns : tie.Need-returns
 returns c =

@@ -1,4 +1,4 @@
--- `load::consistent` meets its contract.
+-- `load_checks::consistent` meets its contract.
 use Prim.Native.Nat.{ℕ, _+_, _*_, _≤_}
 use mathlib.Core.Path.{_≡_}
 use mathlib.Core.Bool.{not}
@@ -6,12 +6,12 @@ use lib.Dec.{eqb}
 use native.Mathlib.Omega.{arith}
 use borrow.Author.Needs.{needs}
 use borrow.Author.Tests.{le-leb, lt-leb, eq-eqb, ne-eqb}
-use Rattle.load_next.specs.declared.Settings.{Settings}
-use Rattle.load_next.specs.declared.Session.{Session}
-use Rattle.load.specs.Load.{consistent}
-use Rattle.load.specs.Laws.{most-sent}
-use Rattle.load.proofs.consistent.Statement.{statement}
-use Rattle.load.proofs.consistent.Tie as tie
+use Rattle.load_record.specs.declared.Settings.{Settings}
+use Rattle.load_record.specs.declared.Session.{Session}
+use Rattle.load_checks.specs.Checks.{consistent}
+use Rattle.load_checks.specs.Laws.{most-sent}
+use Rattle.load_checks.proofs.consistent.Statement.{statement}
+use Rattle.load_checks.proofs.consistent.Tie as tie
 
 module _ (N : ℕ) (s : Settings) (h : Session) (p : h .position ≤ N) (q : h .sent ≤ N * (s .repeats + 1)) where
   finished : h .verdict ≡ 1 → eqb (h .position) N ≡ consistent N s h
@@ -30,22 +30,24 @@ mul-limit : tie.Need-mul-limit
 mul-limit c = omega (arith, most-sent _ _ (c .before .pre .0) (c .before .pre .1))
 
 returns : tie.Need-returns
-returns c = simp (lt-leb _ _ (c .if1 .taken))
+returns c =
+    let a = c .before .before .before .args in
+    simp (lt-leb (a .session .position) (a .many) (omega arith))
 
 returns-2 : tie.Need-returns-2
-returns-2 c = simp (le-leb _ _ (c .before .before .if1 .left), lt-leb _ _ (c .if2 .taken))
+returns-2 c =
+    let a = c .before .before .before .before .before .args in
+    simp (le-leb (a .session .position) (a .many) (omega arith), lt-leb (a .session .sent) (a .many * (a .settings .repeats + 1)) (omega arith))
 
 returns-3 : tie.Need-returns-3
 returns-3 c =
-    let tests = c .before .before .before in
-    let a = tests .before .before .before .before .before .args in
-    finished (a .many) (a .settings) (a .session) (tests .before .before .if1 .left) (tests .if2 .left) (c .before .if3 .taken)
+    let a = c .before .before .before .before .before .before .before .before .args in
+    finished (a .many) (a .settings) (a .session) (omega arith) (omega arith) (omega arith)
 
 returns-4 : tie.Need-returns-4
 returns-4 c =
-    let tests = c .before .before .before in
-    let a = tests .before .before .before .before .before .args in
-    unfinished (a .many) (a .settings) (a .session) (tests .before .before .if1 .left) (tests .if2 .left) (c .before .if3 .left)
+    let a = c .before .before .before .before .before .before .before .before .args in
+    unfinished (a .many) (a .settings) (a .session) (omega arith) (omega arith) (λ v. omega arith)
 
 pub consistent-spec : {M : Type 1} → statement M
 consistent-spec =

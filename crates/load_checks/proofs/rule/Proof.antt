@@ -1,4 +1,4 @@
--- `load::rule` meets its contract.
+-- `load_checks::rule` meets its contract.
 use Prim.Native.Nat.{ℕ, _≤_, _<_}
 use mathlib.Core.Path.{_≡_, sym, _∙_}
 use mathlib.Core.Bool.{Bool, true, false, not}
@@ -13,14 +13,13 @@ use Rattle.image.specs.Image.{surveyed}
 use Rattle.directory.specs.Directory.{refusal as imageRefusal}
 use Rattle.image.specs.Laws.{agrees, survey-refusal, many-range}
 use Rattle.step.specs.Step.{first}
-use Rattle.load_next.specs.declared.Settings.{Settings}
-use Rattle.load_next.specs.declared.Session.{Session}
-use Rattle.load.specs.declared.Ruling.{Ruling}
-use Rattle.load.specs.Load.{settled, sound, consistent, refusal}
-use Rattle.load.specs.Laws.{set, cut-image}
-use Rattle.load.specs.Inner.{Ruled}
-use Rattle.load.proofs.rule.Statement.{statement}
-use Rattle.load.proofs.rule.Tie as tie
+use Rattle.load_record.specs.declared.Settings.{Settings}
+use Rattle.load_record.specs.declared.Session.{Session}
+use Rattle.load_checks.specs.declared.Ruling.{Ruling}
+use Rattle.load_checks.specs.Checks.{settled, sound, consistent, refusal, Ruled}
+use Rattle.load_checks.specs.Laws.{set, cut-image}
+use Rattle.load_checks.proofs.rule.Statement.{statement}
+use Rattle.load_checks.proofs.rule.Tie as tie
 
 -- what a test's answer says
 holds : {x y : Bool} → x ≡ y → not x ≡ false → y ≡ true
@@ -118,7 +117,7 @@ returns-3 : tie.Need-returns-3
 returns-3 c =
     let second = c .before .before in
     let first = second .before .before in
-    no-room (holds (first .before .settled .ensures) (first .if1 .left)) (holds (second .before .sound .ensures) (second .if2 .left)) (c .before .if3 .taken) (c .denied3 .ensures)
+    no-room (holds (first .before .settled .ensures) (first .if1 .left)) (holds (second .before .sound .ensures) (second .if2 .left)) (omega arith) (c .denied3 .ensures)
 
 survey-requires : tie.Need-survey-requires
 survey-requires c κs = search needs
@@ -131,7 +130,7 @@ returns-4 c =
     let surveyed = c .before .before .before in
     let second = surveyed .before .before in
     let first = second .before .before in
-    no-image (holds (first .before .settled .ensures) (first .if1 .left)) (holds (second .before .sound .ensures) (second .if2 .left)) (surveyed .before .if3 .left)
+    no-image (holds (first .before .settled .ensures) (first .if1 .left)) (holds (second .before .sound .ensures) (second .if2 .left)) (omega arith)
     (surveyed .survey .ensures) (c .before .if4 .taken) (c .denied4 .ensures)
 
 consistent-requires : tie.Need-consistent-requires
@@ -151,7 +150,7 @@ returns-5 c =
     let surveyed = accepted .before .before in
     let second = surveyed .before .before in
     let first = second .before .before in
-    inconsistent (holds (first .before .settled .ensures) (first .if1 .left)) (holds (second .before .sound .ensures) (second .if2 .left)) (surveyed .before .if3 .left)
+    inconsistent (holds (first .before .settled .ensures) (first .if1 .left)) (holds (second .before .sound .ensures) (second .if2 .left)) (omega arith)
     (surveyed .survey .ensures) (accepted .if4 .left) (fails (c .before .before .consistent .ensures) (c .before .if5 .taken)) (c .denied5 .ensures)
 
 returns-6 : tie.Need-returns-6
@@ -160,7 +159,7 @@ returns-6 c =
     let surveyed = accepted .before .before in
     let second = surveyed .before .before in
     let first = second .before .before in
-    taken (holds (first .before .settled .ensures) (first .if1 .left)) (holds (second .before .sound .ensures) (second .if2 .left)) (surveyed .before .if3 .left)
+    taken (holds (first .before .settled .ensures) (first .if1 .left)) (holds (second .before .sound .ensures) (second .if2 .left)) (omega arith)
     (surveyed .survey .ensures) (accepted .if4 .left) (holds (c .before .before .consistent .ensures) (c .before .if5 .left))
 
 pub rule-spec : {M : Type 1} → statement M

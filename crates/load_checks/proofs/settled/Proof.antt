@@ -1,0 +1,24 @@
+-- `load_checks::settled` meets its contract.
+use native.Mathlib.Omega.{arith}
+use borrow.Author.Tests.{le-leb, lt-leb}
+use Rattle.image.specs.Image.{widest}
+use Rattle.load_checks.proofs.settled.Statement.{statement}
+use Rattle.load_checks.proofs.settled.Tie as tie
+
+returns : tie.Need-returns
+returns c =
+    let a = c .before .before .args in
+    simp (lt-leb 1 (a .settings .«segment_size») (omega arith))
+
+returns-2 : tie.Need-returns-2
+returns-2 c =
+    let a = c .before .before .before .before .args in
+    simp (le-leb 1 (a .settings .«segment_size») (omega arith), lt-leb (a .settings .«segment_size») widest (omega arith))
+
+returns-3 : tie.Need-returns-3
+returns-3 c =
+    let a = c .before .before .before .before .before .args in
+    simp (le-leb 1 (a .settings .«segment_size») (omega arith), le-leb (a .settings .«segment_size») widest (omega arith))
+
+pub settled-spec : {M : Type 1} → statement M
+settled-spec = tie.close (tie.spec returns returns-2 returns-3)

@@ -1,0 +1,128 @@
+// What a call of the host's end of a load refuses, but for its frame (PROTOCOL 5, 'Host end', and 7, 'Refusals').
+ghost use mathlib.Core.Path.{_≡_};
+ghost use Prim.Native.Nat.{_≤_};
+ghost use Rattle.directory.specs.Directory.{addresses};
+ghost use Rattle.load_checks.specs.Checks.{blank, settled, sound, consistent, Ruled};
+use directory::Region;
+use load_record::Session;
+use load_record::Settings;
+
+// Whether a call is accepted, but for its frame: a refusal; or 0 with N, the image's transfer address, and the segment
+// that might go out.
+pub struct Ruling {
+    pub refusal: u8,
+    pub many: u64,
+    pub transfer: u32,
+    pub segment: Region,
+}
+
+// Whether the settings are in range.
+fn settled(settings: Settings) -> bool
+    ensures { λ r. ⌜ r ≡ settled settings ⌝ }
+{
+    if settings.segment_size < 1 {
+        return false;
+    }
+    if image::WIDEST < settings.segment_size {
+        return false;
+    }
+    settings.repeats <= 255
+}
+
+// Whether all numbers of a record are 0.
+fn blank(session: Session) -> bool
+    ensures { λ r. ⌜ r ≡ blank session ⌝ }
+{
+    if session.verdict != 0 {
+        return false;
+    }
+    if session.position != 0 {
+        return false;
+    }
+    if session.repeats != 0 {
+        return false;
+    }
+    session.sent == 0
+}
+
+// Whether a record is sound, but for what needs N.
+fn sound(settings: Settings, session: Session) -> bool
+    ensures { λ r. ⌜ r ≡ sound settings session ⌝ }
+{
+    if 4 < session.verdict {
+        return false;
+    }
+    if settings.repeats < session.repeats {
+        return false;
+    }
+    if 1 < session.waiting {
+        return false;
+    }
+    if session.waiting == 1 {
+        return blank(session);
+    }
+    true
+}
+
+// Whether a record is sound with so many frames.
+fn consistent(many: u64, settings: Settings, session: Session) -> bool
+    requires { ⌜ (many ≤ addresses) × (settings .repeats ≤ 255) ⌝ }
+    ensures { λ r. ⌜ r ≡ consistent many settings session ⌝ }
+{
+    let limit = many * (settings.repeats as u64 + 1);
+    if many < session.position {
+        return false;
+    }
+    if limit < session.sent {
+        return false;
+    }
+    if session.verdict == 1 {
+        return session.position == many;
+    }
+    session.position != many
+}
+
+// A refusal of the call.
+fn denied(refusal: u8) -> Ruling
+    ensures { λ r. ⌜ r .refusal ≡ refusal ⌝ }
+{
+    Ruling {
+        refusal,
+        many: 0,
+        transfer: 0,
+        segment: Region {
+            address: 0,
+            place: 0,
+            length: 0,
+        },
+    }
+}
+
+// Whether a call is accepted, but for its frame; `index` is the segment that might go out.
+pub fn rule(settings: Settings, session: Session, file: &[u8], reply: &[u8], index: u64) -> Ruling
+    ensures { λ r. ⌜ Ruled settings session (now (file .entry)) (now (reply .entry)) index r ⌝ }
+{
+    if !settled(settings) {
+        return denied(10);
+    }
+    if !sound(settings, session) {
+        return denied(10);
+    }
+    if reply.len() < 1500 {
+        return denied(9);
+    }
+    let a = image::survey(file, settings.segment_size, index);
+    if a.refusal != 0 {
+        return denied(a.refusal);
+    }
+    if !consistent(a.segments, settings, session) {
+        return denied(10);
+    }
+    let segment = a.segment;
+    Ruling {
+        refusal: 0,
+        many: a.segments,
+        transfer: a.transfer,
+        segment,
+    }
+}

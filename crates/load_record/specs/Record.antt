@@ -1,0 +1,48 @@
+-- The record of the host's end of a load (PROTOCOL 5, 'Host end'), its named updates, and what the host does next: its record, and
+-- whether the frame at the record's position goes out. N frames make the load. The count of frames sent is raised by the calls.
+use Prim.Native.Nat.{ℕ, _+_}
+use mathlib.Core.Bool.{Bool, true, false, cond as pick}
+use lib.Dec.{eqb, ltb}
+use Rattle.load_record.specs.declared.Session.{Session}
+use Rattle.load_record.specs.declared.Next.{Next}
+
+-- a waiting host, all numbers 0
+abbrev pub fresh : Session
+fresh = record { position = 0; sent = 0; repeats = 0; waiting = 1; verdict = 0 }
+
+-- this record with other numbers; its count stays
+abbrev pub changed : Session → ℕ → ℕ → ℕ → ℕ → Session
+changed h position repeats waiting verdict =
+    record { position = position; sent = h .sent; repeats = repeats; waiting = waiting; verdict = verdict }
+
+-- the frame at a position is on its way, not yet repeated
+abbrev pub reached : Session → ℕ → Session
+reached h position = changed h position 0 0 (h .verdict)
+
+-- one more repeat is used
+abbrev pub repeated : Session → Session
+repeated h = changed h (h .position) (h .repeats + 1) (h .waiting) (h .verdict)
+
+-- there is a verdict
+abbrev pub ended : Session → ℕ → Session
+ended h verdict = changed h (h .position) (h .repeats) (h .waiting) verdict
+
+-- nothing changes, and nothing goes out
+abbrev pub ignores : Session → Next
+ignores h = record { session = h; sends = false }
+
+-- the frame at the record's position goes out
+abbrev pub goesOut : Session → Next
+goesOut h = record { session = h; sends = true }
+
+-- the load ends with a verdict
+abbrev pub ends : Session → ℕ → Next
+ends h verdict = record { session = ended h verdict; sends = false }
+
+-- a frame follows the one on its way
+abbrev pub more : ℕ → Session → Bool
+more N h = ltb (h .position + 1) N
+
+-- once there is a verdict nothing changes and nothing goes out
+abbrev pub running : Session → Next → Next
+running h next = pick (eqb (h .verdict) 0) next (ignores h)

@@ -1,0 +1,106 @@
+// The record of the host's end of a load, and its named updates (PROTOCOL 5, 'Host end').
+ghost use mathlib.Core.Path.{_≡_};
+ghost use Prim.Native.Nat.{_<_};
+ghost use Rattle.load_record.specs.Record.{fresh, reached, repeated, ignores, goesOut, ends, more};
+
+// Its settings: S, the bytes of a segment, and R, the repeats allowed per frame.
+#[repr(C)]
+pub struct Settings {
+    pub segment_size: u32,
+    pub repeats: u32,
+}
+
+// Its record: c, the frames answered; the frames sent; the repeats of the frame on its way; whether it still waits for a
+// request (1) or not (0); the verdict: 0 running, 1 finished, 2 rejected, 3 given up, 4 unconfirmed.
+#[repr(C)]
+pub struct Session {
+    pub position: u64,
+    pub sent: u64,
+    pub repeats: u32,
+    pub waiting: u8,
+    pub verdict: u8,
+}
+
+// What it does next: its record but for the count of frames sent, and whether the frame at the record's position goes out.
+pub struct Next {
+    pub session: Session,
+    pub sends: bool,
+}
+
+// A waiting host.
+pub fn start() -> Session
+    ensures { λ r. ⌜ r ≡ fresh ⌝ }
+{
+    Session {
+        position: 0,
+        sent: 0,
+        repeats: 0,
+        waiting: 1,
+        verdict: 0,
+    }
+}
+
+// The frame at a position is on its way.
+pub fn reached(h: Session, position: u64) -> Session
+    ensures { λ r. ⌜ r ≡ reached h position ⌝ }
+{
+    let mut next = h;
+    next.position = position;
+    next.repeats = 0;
+    next.waiting = 0;
+    next
+}
+
+// One more repeat is used, if there is a number for it.
+pub fn repeated(h: Session) -> Session
+    ensures { λ r. ⌜ (h .repeats < 4294967295 → r ≡ repeated h) ⌝ }
+{
+    if h.repeats == 4294967295 {
+        return h;
+    }
+    let mut next = h;
+    next.repeats = h.repeats + 1;
+    next
+}
+
+// Nothing changes, and nothing goes out.
+pub fn ignored(h: Session) -> Next
+    ensures { λ r. ⌜ r ≡ ignores h ⌝ }
+{
+    Next {
+        session: h,
+        sends: false,
+    }
+}
+
+// The frame at the record's position goes out.
+pub fn goes_out(h: Session) -> Next
+    ensures { λ r. ⌜ r ≡ goesOut h ⌝ }
+{
+    Next {
+        session: h,
+        sends: true,
+    }
+}
+
+// The load ends with a verdict.
+pub fn ends(h: Session, verdict: u8) -> Next
+    ensures { λ r. ⌜ r ≡ ends h verdict ⌝ }
+{
+    let mut last = h;
+    last.verdict = verdict;
+    Next {
+        session: last,
+        sends: false,
+    }
+}
+
+// Whether a frame follows the one on its way, of so many.
+pub fn more(many: u64, h: Session) -> bool
+    ensures { λ r. ⌜ r ≡ more many h ⌝ }
+{
+    if many <= h.position {
+        return false;
+    }
+    h.position + 1 < many
+}
