@@ -1,29 +1,31 @@
--- A call, then its frame sent, is a turn.
+-- The frame in front of the machine's queue: none, or one that the host is called on.
 use Prim.Native.Nat.{ℕ}
-use mathlib.Core.Path.{_≡_, refl, ap, _∙_}
+use mathlib.Core.Path.{_≡_, refl, subst}
 use mathlib.Core.List.{List}
 use lib.ListN.{length, take}
-use borrow.Author.Tests.{eq-eqb, ne-eqb}
 use Rattle.buffer.specs.declared.Written.{Written}
 use Rattle.step.specs.Step.{Outcome, Leaves}
-use Rattle.queue.specs.declared.Queue.{Queue}
-use Rattle.queue.specs.Queue.{sent, keeps}
-use Rattle.host_turns.specs.Turn.{onFirst, frameOf, Turned}
+use Rattle.load_record.specs.declared.Settings.{Settings}
+use Rattle.load_record.specs.declared.Session.{Session}
+use Rattle.load.specs.Load.{loadFrame}
+use Rattle.queue.specs.Queue.{first}
+use Rattle.job.specs.declared.Moved.{Moved}
+use Rattle.job.specs.Run.{Run, hostSent, hostMoves, Left, Joined}
+use Rattle.job.specs.Laws.{host-left, none-first, some-first}
+use Rattle.host_turns.specs.Turns.{hostHanded}
 
-module _ {H B : Type 0} (o : Outcome H B) (q : Queue) (places : List (List ℕ)) where
-  pub turned : {end : H} {answer : Written} {lent : B} {reply : List ℕ} → Leaves o end answer lent reply → {q′ : Queue} {places′ : List (List ℕ)}
-      → (q′ ≡ sent q (take (answer .length) reply)) × (places′ ≡ keeps q (take (answer .length) reply) places)
-      → Turned o q places end lent (answer .length) reply q′ places′
-  turned {end} {answer} {lent} {reply} l s =
-      let e : take (answer .length) reply ≡ frameOf o =
-      ap (λ (a : Written). take (a .length) reply) (l .1) ∙ ap (λ (r : List ℕ). take (o .answer .length) r) (l .3) in
-      (l .0, l .2, ap (λ (a : Written). a .length) (l .1), l .3, s .0 ∙ ap (λ (f : List ℕ). sent q f) e, s .1 ∙ ap (λ (f : List ℕ). keeps q f places) e)
+module _ (s : Settings) (file : List ℕ) (w : Run) (f : List ℕ) (e : f ≡ first (w .ends .«from_machine») (w .machinePlaces)) where
+  abbrev call : List ℕ → Outcome Session Unit
+  call g = loadFrame s (w .ends .session) file g (w .reply)
 
--- the frame f in front: none, or one that the call is made on
-module _ {H B : Type 0} (call : List ℕ → Outcome H B) (q : Queue) (places : List (List ℕ)) (end : H) (lent : B) (reply f frame : List ℕ) (e : f ≡ frame) where
-  pub none-first : length f ≡ 0 → Turned (onFirst frame end lent reply (call frame)) q places end lent 0 reply q places
-  none-first h = rw (← e, eq-eqb (length f) 0 h) (refl, refl, refl, refl, refl, refl)
+  pub none-left : length f ≡ 0 → Left (hostMoves w (hostHanded s file w)) (w .ends) 0 (w .memory) (w .hostPlaces) (w .machinePlaces) (w .reply)
+  none-left h =
+      subst (λ (o : Outcome Session Unit). Left (hostMoves w o) (w .ends) 0 (w .memory) (w .hostPlaces) (w .machinePlaces) (w .reply))
+      (none-first call (w .ends .session) tt (w .reply) f _ e h) (refl, refl, refl, refl, refl, refl)
 
-  pub some-first : (length f ≡ 0 → ⊥) → {end′ : H} {lent′ : B} {n : ℕ} {reply′ : List ℕ} {q′ : Queue} {places′ : List (List ℕ)}
-      → Turned (call f) q places end′ lent′ n reply′ q′ places′ → Turned (onFirst frame end lent reply (call frame)) q places end′ lent′ n reply′ q′ places′
-  some-first h t = rw (← e, ne-eqb (length f) 0 h) t
+  pub some-left : (length f ≡ 0 → ⊥) → {h : Session} {answer : Written} {reply : List ℕ} → Leaves (loadFrame s (w .ends .session) file f (w .reply)) h answer tt reply
+      → {r : Moved} {places : List (List ℕ)} → Joined (hostSent (w .ends) h) (w .ends .«from_host») (w .hostPlaces) (answer .length) (take (answer .length) reply) r places
+      → Left (hostMoves w (hostHanded s file w)) (r .ends) (r .sent) (w .memory) places (w .machinePlaces) reply
+  some-left n {h} {answer} {reply} l {r} {places} j =
+      subst (λ (o : Outcome Session Unit). Left (hostMoves w o) (r .ends) (r .sent) (w .memory) places (w .machinePlaces) reply)
+      (some-first call (w .ends .session) tt (w .reply) f _ e n) (host-left w (call f) l j)

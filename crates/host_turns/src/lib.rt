@@ -1,108 +1,81 @@
 // The host's turns in a rehearsal: on the machine's first frame, and at its timer (PROTOCOL 8, 'Rehearsal').
 ghost use mathlib.Core.Path.{_≡_};
-ghost use mathlib.Core.Bool.{cond};
-ghost use Rattle.load.specs.Load.{loadFrame, loadTimer};
-ghost use Rattle.queue.specs.Queue.{first};
-ghost use Rattle.host_turns.specs.Turn.{onFirst, Turned};
-use load_record::Session;
+ghost use mathlib.Core.List.{List};
+ghost use Prim.Native.Nat.{ℕ};
+ghost use lib.ListN.{take};
+ghost use Rattle.job.specs.Run.{run, hostSent, hostMoves, Left, Joined};
+ghost use Rattle.host_turns.specs.Turns.{hostHanded, hostTimed, hostTurn};
+use job::Ends;
+use job::Moved;
+use load::Stepped;
 use load_record::Settings;
-use queue::Queue;
 
-// What a turn leaves: the host's record, the queue of its frames, and the length of the frame in the reply buffer that it
-// sent, 0 for none.
-pub struct Turn {
-    pub session: Session,
-    pub queue: Queue,
-    pub sent: usize,
+// A call's frame, in the reply buffer, joins the host's queue.
+fn send(ends: Ends, stepped: Stepped, reply: &[u8], places: &mut [[u8; 1500]; 16]) -> Moved
+    ensures { λ r. ⌜ Joined (hostSent ends (stepped .session)) (ends .«from_host») (now (places .entry)) (stepped .answer .length)
+        (take (stepped .answer .length) (now (reply .entry))) r (now (places .exit)) ⌝ }
+{
+    let sent = stepped.answer.length;
+    let session = stepped.session;
+    let queue = queue::send(ends.from_host, reply, sent, places);
+    let mut next = ends;
+    next.session = session;
+    next.from_host = queue;
+    Moved { ends: next, sent }
 }
 
 // The machine's first frame is handed over to the host; without one nothing happens.
 fn on_frame(
     settings: Settings,
-    session: Session,
-    queue: Queue,
+    ends: Ends,
     file: &[u8],
-    from: Queue,
-    from_places: &[[u8; 1500]; 16],
+    machine_places: &[[u8; 1500]; 16],
     places: &mut [[u8; 1500]; 16],
     reply: &mut [u8],
-) -> Turn
-    ensures { λ r. ⌜ Turned
-        (onFirst (first from (now («from_places» .entry))) session tt (now (reply .entry))
-        (loadFrame settings session (now (file .entry)) (first from (now («from_places» .entry))) (now (reply .entry))))
-        queue (now (places .entry)) (r .session) tt (r .sent) (now (reply .exit)) (r .queue) (now (places .exit)) ⌝ }
+) -> Moved
+    ensures { λ r. ⌜ ((memory : List ℕ) → Left (hostMoves (run ends memory (now (places .entry)) (now («machine_places» .entry)) (now (reply .entry)))
+        (hostHanded settings (now (file .entry)) (run ends memory (now (places .entry)) (now («machine_places» .entry)) (now (reply .entry)))))
+        (r .ends) (r .sent) memory (now (places .exit)) (now («machine_places» .entry)) (now (reply .exit))) ⌝ }
 {
-    let frame = queue::first(from, from_places);
+    let frame = queue::first(ends.from_machine, machine_places);
     if frame.len() == 0 {
-        return Turn {
-            session,
-            queue,
-            sent: 0,
-        };
+        return Moved { ends, sent: 0 };
     }
-    let stepped = load::frame(settings, session, file, frame, reply);
-    let sent = stepped.answer.length;
-    let session = stepped.session;
-    let queue = queue::send(queue, reply, sent, places);
-    Turn {
-        session,
-        queue,
-        sent,
-    }
+    let stepped = load::frame(settings, ends.session, file, frame, reply);
+    send(ends, stepped, reply, places)
 }
 
 // The host's timer.
 fn on_timer(
     settings: Settings,
-    session: Session,
-    queue: Queue,
+    ends: Ends,
     file: &[u8],
     places: &mut [[u8; 1500]; 16],
     reply: &mut [u8],
-) -> Turn
-    ensures { λ r. ⌜ Turned (loadTimer settings session (now (file .entry)) (now (reply .entry)))
-        queue (now (places .entry)) (r .session) tt (r .sent) (now (reply .exit)) (r .queue) (now (places .exit)) ⌝ }
+) -> Moved
+    ensures { λ r. ⌜ ((memory : List ℕ) (machines : List (List ℕ)) → Left (hostMoves (run ends memory (now (places .entry)) machines (now (reply .entry)))
+        (hostTimed settings (now (file .entry)) (run ends memory (now (places .entry)) machines (now (reply .entry)))))
+        (r .ends) (r .sent) memory (now (places .exit)) machines (now (reply .exit))) ⌝ }
 {
-    let stepped = load::timer(settings, session, file, reply);
-    let sent = stepped.answer.length;
-    let session = stepped.session;
-    let queue = queue::send(queue, reply, sent, places);
-    Turn {
-        session,
-        queue,
-        sent,
-    }
+    let stepped = load::timer(settings, ends.session, file, reply);
+    send(ends, stepped, reply, places)
 }
 
 // The host's timer, or the machine's first frame.
 pub fn act(
     settings: Settings,
-    session: Session,
-    queue: Queue,
+    ends: Ends,
     timer: bool,
     file: &[u8],
-    from: Queue,
-    from_places: &[[u8; 1500]; 16],
+    machine_places: &[[u8; 1500]; 16],
     places: &mut [[u8; 1500]; 16],
     reply: &mut [u8],
-) -> Turn
-    ensures { λ r. ⌜ Turned
-        (cond timer (loadTimer settings session (now (file .entry)) (now (reply .entry)))
-        (onFirst (first from (now («from_places» .entry))) session tt (now (reply .entry))
-        (loadFrame settings session (now (file .entry)) (first from (now («from_places» .entry))) (now (reply .entry)))))
-        queue (now (places .entry)) (r .session) tt (r .sent) (now (reply .exit)) (r .queue) (now (places .exit)) ⌝ }
+) -> Moved
+    ensures { λ r. ⌜ ((memory : List ℕ) → Left (hostTurn settings (now (file .entry)) (run ends memory (now (places .entry)) (now («machine_places» .entry)) (now (reply .entry))) timer)
+        (r .ends) (r .sent) memory (now (places .exit)) (now («machine_places» .entry)) (now (reply .exit))) ⌝ }
 {
     if timer {
-        return on_timer(settings, session, queue, file, places, reply);
+        return on_timer(settings, ends, file, places, reply);
     }
-    on_frame(
-        settings,
-        session,
-        queue,
-        file,
-        from,
-        from_places,
-        places,
-        reply,
-    )
+    on_frame(settings, ends, file, machine_places, places, reply)
 }

@@ -1,51 +1,56 @@
--- A turn that was taken is a step.
+-- A turn that was taken is a step, and what is read of an input.
 use Prim.Native.Nat.{ℕ}
 use mathlib.Core.Path.{_≡_, refl, ap, _∙_}
-use mathlib.Core.Bool.{Bool, false}
 use mathlib.Core.List.{List}
-use lib.ListN.{take, drop}
+use lib.ListN.{length, take, drop}
 use borrow.Author.Tests.{eq-eqb, ne-eqb}
 use Rattle.buffer.specs.declared.Written.{Written}
 use Rattle.buffer.specs.Lay.{Output, Came}
-use Rattle.text.specs.Text.{placed}
 use Rattle.hexadecimal.specs.Hexadecimal.{hexadecimal, decoded}
 use Rattle.segments.specs.declared.Image.{Image}
 use Rattle.segments.specs.Segments.{checked as imageChecked}
 use Rattle.script.specs.declared.Script.{Script}
 use Rattle.script.specs.Script.{checked}
-use Rattle.step.specs.Step.{Outcome, Leaves}
+use Rattle.step.specs.Step.{Outcome, ignores, gives, Leaves}
 use Rattle.machine_record.specs.declared.Machine.{Machine}
-use Rattle.machine_record.specs.Record.{requesting}
-use Rattle.machine_timer.specs.Timer.{machineTimer}
 use Rattle.load_record.specs.declared.Session.{Session}
-use Rattle.load_record.specs.Record.{fresh}
-use Rattle.queue.specs.declared.Queue.{Queue}
-use Rattle.queue.specs.Queue.{empty, sent, keeps}
-use Rattle.transcript.specs.Transcript.{sentLine}
-use Rattle.host_turns.specs.Turn.{Turned}
-use Rattle.host_turns.specs.Laws.{turned}
-use Rattle.job.specs.declared.Setup.{Setup}
+use Rattle.queue.specs.Queue.{keeps}
 use Rattle.job.specs.declared.Job.{Job}
-use Rattle.job.specs.declared.Ends.{Ends}
+use Rattle.job.specs.declared.Moved.{Moved}
 use Rattle.job.specs.Job.{job, imageIn, bytesOf, reading}
-use Rattle.job.specs.Run.{Run, Step, run, frame, machineMoves, hostMoves, freshEnds, begin, Left}
+use Rattle.job.specs.Turn.{onFirst, frameOf}
+use Rattle.job.specs.Run.{Run, machineSent, hostSent, machineMoves, hostMoves, Left, Joined}
+
+-- ---- a turn of an end: a call, and the frame that joins its queue
+module _ {H B : Type 0} (o : Outcome H B) where
+  frame-is : {end : H} {answer : Written} {lent : B} {reply : List ℕ} → Leaves o end answer lent reply → take (answer .length) reply ≡ frameOf o
+  frame-is {end} {answer} {lent} {reply} l =
+      ap (λ (a : Written). take (a .length) reply) (l .1) ∙ ap (λ (r : List ℕ). take (o .answer .length) r) (l .3)
 
 module _ (w : Run) where
-  pub machine-left : (o : Outcome Machine (List ℕ)) {m : Machine} {memory : List ℕ} {n : ℕ} {reply : List ℕ} {q : Queue} {places : List (List ℕ)}
-      → Turned o (w .ends .«from_machine») (w .machinePlaces) m memory n reply q places
-      → Left (machineMoves w o) (record { session = w .ends .session; machine = m; «from_host» = w .ends .«from_host»; «from_machine» = q }) n memory (w .hostPlaces) places reply
-  machine-left o t = (rw (t .0, t .4), t .2, t .1, refl, t .5, t .3)
+  module _ (o : Outcome Machine (List ℕ)) where
+    pub machine-left : {m : Machine} {answer : Written} {memory reply : List ℕ} → Leaves o m answer memory reply
+        → {r : Moved} {places : List (List ℕ)} → Joined (machineSent (w .ends) m) (w .ends .«from_machine») (w .machinePlaces) (answer .length) (take (answer .length) reply) r places
+        → Left (machineMoves w o) (r .ends) (r .sent) memory (w .hostPlaces) places reply
+    machine-left l j =
+        let e = frame-is o l in
+        (j .0 ∙ ap (machineSent (w .ends) _) e ∙ ap (λ (m : Machine). machineSent (w .ends) m (frameOf o)) (l .0), j .1 ∙ ap (λ (a : Written). a .length) (l .1), l .2, refl, j .2 ∙ ap (λ (f : List ℕ). keeps (w .ends .«from_machine») f (w .machinePlaces)) e, l .3)
 
-  pub host-left : (o : Outcome Session Unit) {h : Session} {n : ℕ} {reply : List ℕ} {q : Queue} {places : List (List ℕ)}
-      → Turned o (w .ends .«from_host») (w .hostPlaces) h tt n reply q places
-      → Left (hostMoves w o) (record { session = h; machine = w .ends .machine; «from_host» = q; «from_machine» = w .ends .«from_machine» }) n (w .memory) places (w .machinePlaces) reply
-  host-left o t = (rw (t .0, t .4), t .2, refl, t .5, refl, t .3)
+  module _ (o : Outcome Session Unit) where
+    pub host-left : {h : Session} {answer : Written} {reply : List ℕ} → Leaves o h answer tt reply
+        → {r : Moved} {places : List (List ℕ)} → Joined (hostSent (w .ends) h) (w .ends .«from_host») (w .hostPlaces) (answer .length) (take (answer .length) reply) r places
+        → Left (hostMoves w o) (r .ends) (r .sent) (w .memory) places (w .machinePlaces) reply
+    host-left l j =
+        let e = frame-is o l in
+        (j .0 ∙ ap (hostSent (w .ends) _) e ∙ ap (λ (h : Session). hostSent (w .ends) h (frameOf o)) (l .0), j .1 ∙ ap (λ (a : Written). a .length) (l .1), refl, j .2 ∙ ap (λ (f : List ℕ). keeps (w .ends .«from_host») f (w .hostPlaces)) e, refl, l .3)
 
--- the line of the frame that a step sent
-pub line-left : (s : Step) (host : Bool) (n : ℕ) (reply part out : List ℕ) → n ≡ s .sent → reply ≡ s .run .reply → part ≡ take n reply → {r : Written} {out′ : List ℕ}
-    → Came (placed (sentLine host part) out) r out′ → Came (placed (sentLine host (frame s)) out) r out′
-line-left s host n reply part out e f p came =
-    rw (p ∙ ap (λ (k : ℕ). take k reply) e ∙ ap (λ (l : List ℕ). take (s .sent) l) f) at came
+-- the frame f in front: none, or one that the call is made on
+module _ {H B : Type 0} (call : List ℕ → Outcome H B) (end : H) (lent : B) (reply f frame : List ℕ) (e : f ≡ frame) where
+  pub none-first : length f ≡ 0 → gives (ignores end lent) reply ≡ onFirst frame end lent reply (call frame)
+  none-first h = rw (← e, eq-eqb (length f) 0 h)
+
+  pub some-first : (length f ≡ 0 → ⊥) → call f ≡ onFirst frame end lent reply (call frame)
+  some-first h = rw (← e, ne-eqb (length f) 0 h)
 
 -- ---- what is read of an input
 module _ (input space : List ℕ) (t : Script) (e : t ≡ checked input) where
@@ -63,13 +68,3 @@ module _ (input space : List ℕ) (t : Script) (e : t ≡ checked input) where
       let cut = g ∙ ap (λ (l : List ℕ). imageChecked l (t .«segment_size»)) same in
       let all = k ∙ ap (λ (a : Written). job t (a .length) (i .segments) (i .refusal)) (c .0) ∙ ap (λ (x : Image). job t (o .answer .length) (x .segments) (x .refusal)) cut in
       rw (← e, eq-eqb (t .refusal) 0 h) (all, c .1)
-
--- ---- the first step
-module _ (s : Setup) (memory : List ℕ) (places : List (List ℕ)) (reply : List ℕ) where
-  pub begun : {h : Session} → h ≡ fresh → {q₁ : Queue} → q₁ ≡ empty → {q₂ : Queue} → q₂ ≡ empty → {m : Machine} {answer : Written} {reply′ : List ℕ}
-      → Leaves (machineTimer (s .machine) requesting memory reply) m answer memory reply′ → {q : Queue} {places′ : List (List ℕ)}
-      → (q ≡ sent q₁ (take (answer .length) reply′)) × (places′ ≡ keeps q₁ (take (answer .length) reply′) places) → (hosts : List (List ℕ))
-      → Left (begin s (run freshEnds memory hosts places reply)) (record { session = h; machine = m; «from_host» = q₂; «from_machine» = q }) (answer .length) memory hosts places′ reply′
-  begun a b c l t hosts =
-      let o = machineTimer (s .machine) requesting memory reply in
-      rw (a, c) (machine-left (run freshEnds memory hosts places reply) o (turned o empty places l (rw b at t)))

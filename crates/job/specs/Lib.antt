@@ -1,3 +1,4 @@
 pub mod Job
+pub mod Turn
 pub mod Run
 pub mod Laws

@@ -1,13 +1,10 @@
-// A rehearsal's job (PROTOCOL 8, 'Rehearsal'): what its input asks for, its first step and its last
-// line.
+// A rehearsal's job (PROTOCOL 8, 'Rehearsal'): what its input asks for, the ends that it begins with, and
+// its last line.
 ghost use mathlib.Core.Path.{_≡_};
-ghost use mathlib.Core.List.{List};
-ghost use Prim.Native.Nat.{ℕ};
 ghost use Rattle.buffer.specs.Lay.{Came};
 ghost use Rattle.text.specs.Text.{placed};
-ghost use Rattle.transcript.specs.Transcript.{badLine};
 ghost use Rattle.job.specs.Job.{setup, job, reading};
-ghost use Rattle.job.specs.Run.{run, freshEnds, begin, beginLine, endLine, Left};
+ghost use Rattle.job.specs.Run.{hostSends, frameLine, freshEnds, endLine};
 use buffer::Written;
 use load_record::Session;
 use machine_record::Machine;
@@ -30,12 +27,6 @@ pub struct Job {
     pub refusal: u8,
 }
 
-// A job, and the line of a refused one.
-pub struct Opened {
-    pub job: Job,
-    pub line: Written,
-}
-
 // Both ends, and the queues of what each has sent.
 pub struct Ends {
     pub session: Session,
@@ -44,11 +35,10 @@ pub struct Ends {
     pub from_machine: Queue,
 }
 
-// What a step leaves: both ends, the length of the frame in the reply buffer that was sent, 0 for none, and its line.
+// What a step leaves: both ends, and the length of the frame in the reply buffer that was sent, 0 for none.
 pub struct Moved {
     pub ends: Ends,
     pub sent: usize,
-    pub line: Written,
 }
 
 // The settings of both ends. The machine's dump setting plays no part in a load.
@@ -96,45 +86,35 @@ pub fn read(input: &[u8], space: &mut [u8]) -> Job
     asked(script, decoded.length, image.segments, image.refusal)
 }
 
-// The same, and the line of a refused input.
-pub fn open(input: &[u8], space: &mut [u8], line: &mut [u8]) -> Opened
-    ensures { λ r. ⌜ (r .job ≡ reading (now (input .entry)) (now (space .entry)) .job)
-        × (now (space .exit) ≡ reading (now (input .entry)) (now (space .entry)) .space)
-        × Came (placed (badLine (r .job .refusal)) (now (line .entry))) (r .line) (now (line .exit)) ⌝ }
+// A waiting host and a Requesting machine; no frame is on its way.
+pub fn fresh() -> Ends
+    ensures { λ r. ⌜ r ≡ freshEnds ⌝ }
 {
-    let job = read(input, space);
-    let written = transcript::bad(job.refusal, line);
-    Opened { job, line: written }
+    Ends {
+        session: load_record::start(),
+        machine: machine_record::in_state(2, 0, 0, 0),
+        from_host: queue::empty(),
+        from_machine: queue::empty(),
+    }
 }
 
-// The fresh ends, and the machine's first frame.
-pub fn begin(
-    setup: Setup,
-    memory: &[u8],
-    places: &mut [[u8; 1500]; 16],
-    reply: &mut [u8],
-    line: &mut [u8],
-) -> Moved
-    ensures { λ r. ⌜ ((hosts : List (List ℕ)) → Left
-        (begin setup (run freshEnds (now (memory .entry)) hosts (now (places .entry)) (now (reply .entry))))
-        (r .ends) (r .sent) (now (memory .entry)) hosts (now (places .exit)) (now (reply .exit)))
-        × Came (placed (beginLine (begin setup (run freshEnds (now (memory .entry)) (now (places .entry)) (now (places .entry)) (now (reply .entry))))) (now (line .entry))) (r .line) (now (line .exit)) ⌝ }
+// Whether it is the host that may send at an event.
+pub fn host_sends(letter: u8) -> bool
+    ensures { λ r. ⌜ r ≡ hostSends letter ⌝ }
 {
-    let stepped = machine_timer::start_load(setup.machine, memory, reply);
-    let sent = stepped.answer.length;
-    let machine = stepped.machine;
-    let from_machine = queue::send(queue::empty(), reply, sent, places);
-    let written = transcript::sent(false, text::part(reply, 0, sent), line);
-    Moved {
-        ends: Ends {
-            session: load_record::start(),
-            machine,
-            from_host: queue::empty(),
-            from_machine,
-        },
-        sent,
-        line: written,
+    match letter {
+        b't' => true,
+        b'u' => true,
+        b'm' => true,
+        _ => false,
     }
+}
+
+// The line of a frame that was sent at an event; none for no bytes.
+pub fn line(letter: u8, frame: &[u8], out: &mut [u8]) -> Written
+    ensures { λ r. ⌜ Came (placed (frameLine letter (now (frame .entry))) (now (out .entry))) r (now (out .exit)) ⌝ }
+{
+    transcript::sent(host_sends(letter), frame, out)
 }
 
 // The last line.

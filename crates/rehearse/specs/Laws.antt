@@ -5,40 +5,13 @@ use mathlib.Core.List.{List}
 use mathlib.Core.Bool.{Bool, true, false}
 use lib.Dec.{eqb}
 use borrow.Author.Tests.{eqb-true, eqb-false, ne-eqb}
-use Rattle.step.specs.Step.{Outcome}
-use Rattle.machine_record.specs.declared.Machine.{Machine}
-use Rattle.load_record.specs.declared.Session.{Session}
-use Rattle.host_turns.specs.declared.Turn.{Turn as HostTurn}
-use Rattle.host_turns.specs.Turn.{Turned}
 use Rattle.job.specs.declared.Setup.{Setup}
-use Rattle.job.specs.declared.Ends.{Ends}
-use Rattle.job.specs.Run.{Run, Step, machineMoves, hostMoves, Left}
-use Rattle.job.specs.Laws.{machine-left, host-left}
-use Rattle.machine_turns.specs.declared.Turn.{Turn as MachineTurn}
-use Rattle.rehearse.specs.declared.Move.{Move}
-use Rattle.rehearse.specs.Inner.{machineMoved, hostMoved, machineSends, machineActs, hostActs, turn, leaving}
-use Rattle.rehearse.specs.Rehearse.{with, event, hostSends}
-
--- the ways through a turn: the machine's, the host's, none
-module _ (s : Setup) (file : List ℕ) (w : Run) (letter : ℕ) (m : Move) {a : Bool} (e : a ≡ machineSends letter) where
-  pub machine-turn : a ≡ true → (t : MachineTurn) {memory reply : List ℕ} {places : List (List ℕ)}
-      → Turned (machineActs s w (eqb letter 110)) (w .ends .«from_machine») (w .machinePlaces) (t .machine) memory (t .sent) reply (t .queue) places
-      → m ≡ machineMoved (w .ends) t → Left (turn s file w letter) (m .ends) (m .sent) memory (w .hostPlaces) places reply
-  machine-turn h t {memory} {reply} {places} u f =
-      let o = machineActs s w (eqb letter 110) in
-      rw (← e, h) (subst (λ (x : Move). Left (machineMoves w o) (x .ends) (x .sent) memory (w .hostPlaces) places reply) (sym f) (machine-left w o u))
-
-  module _ (n : a ≡ false) {b : Bool} (g : b ≡ hostSends letter) where
-    pub host-turn : b ≡ true → (t : HostTurn) {reply : List ℕ} {places : List (List ℕ)}
-        → Turned (hostActs s file w (eqb letter 109)) (w .ends .«from_host») (w .hostPlaces) (t .session) tt (t .sent) reply (t .queue) places
-        → m ≡ hostMoved (w .ends) t → Left (turn s file w letter) (m .ends) (m .sent) (w .memory) places (w .machinePlaces) reply
-    host-turn h t {reply} {places} u f =
-        let o = hostActs s file w (eqb letter 109) in
-        rw (← e, n, ← g, h) (subst (λ (x : Move). Left (hostMoves w o) (x .ends) (x .sent) (w .memory) places (w .machinePlaces) reply) (sym f) (host-left w o u))
-
-    pub no-turn : b ≡ false → m ≡ record { ends = w .ends; sent = 0 }
-        → Left (turn s file w letter) (m .ends) (m .sent) (w .memory) (w .hostPlaces) (w .machinePlaces) (w .reply)
-    no-turn h f = rw (← e, n, ← g, h) (ap (λ (x : Move). x .ends) f, ap (λ (x : Move). x .sent) f, refl, refl, refl, refl)
+use Rattle.job.specs.declared.Moved.{Moved}
+use Rattle.job.specs.Run.{Run, Step, run, freshEnds, hostSends, Left}
+use Rattle.host_turns.specs.Turns.{hostTurn}
+use Rattle.machine_turns.specs.Turns.{machineTurn}
+use Rattle.rehearse.specs.Inner.{machineSends, turn, leaving, afterwards}
+use Rattle.rehearse.specs.Rehearse.{with, still, event, begin}
 
 -- a number that is one, or is not
 either-by : (P : ℕ → Type 0) (n k : ℕ) (b : Bool) → eqb n k ≡ b → P k → ((n ≡ k → ⊥) → P n) → P n
@@ -57,9 +30,30 @@ is-event s file w letter =
     (λ t. either P letter 117 refl (λ u. either P letter 121 refl (λ y. either P letter 109 refl (λ m. either P letter 110 refl
     (λ n. rw (ne-eqb letter 104 h, ne-eqb letter 107 k, ne-eqb letter 120 x, ne-eqb letter 116 t, ne-eqb letter 117 u, ne-eqb letter 121 y, ne-eqb letter 109 m, ne-eqb letter 110 n)))))))))
 
-pub left : (s : Setup) (file : List ℕ) (w : Run) (letter : ℕ) (m : Move) (r : Ends) {memory : List ℕ} {hosts machines : List (List ℕ)} {reply : List ℕ}
-    → Left (turn s file w letter) (m .ends) (m .sent) memory hosts machines reply → r ≡ leaving letter (m .ends)
-    → Left (event s file w letter) r (m .sent) memory hosts machines reply
-left s file w letter m r {memory} {hosts} {machines} {reply} l e =
-    subst (λ (t : Step). Left t r (m .sent) memory hosts machines reply) (is-event s file w letter)
-    (e ∙ ap (leaving letter) (l .0), l .1, l .2, l .3, l .4, l .5)
+-- the ways through an event: a turn of the machine, of the host, of none; and the frame that leaves
+module _ (s : Setup) (file : List ℕ) (w : Run) (letter : ℕ) where
+  ended : (m r : Moved) {memory : List ℕ} {hosts machines : List (List ℕ)} {reply : List ℕ}
+      → Left (turn s file w letter) (m .ends) (m .sent) memory hosts machines reply → r ≡ afterwards letter m
+      → Left (event s file w letter) (r .ends) (r .sent) memory hosts machines reply
+  ended m r {memory} {hosts} {machines} {reply} l e =
+      subst (λ (t : Step). Left t (r .ends) (r .sent) memory hosts machines reply) (is-event s file w letter)
+      (ap (λ (x : Moved). x .ends) e ∙ ap (leaving letter) (l .0), ap (λ (x : Moved). x .sent) e ∙ l .1, l .2, l .3, l .4, l .5)
+
+  module _ (m r : Moved) {memory : List ℕ} {hosts machines : List (List ℕ)} {reply : List ℕ} {a : Bool} (e : a ≡ machineSends letter) where
+    pub machine-event : a ≡ true → Left (machineTurn (s .machine) w (eqb letter 110)) (m .ends) (m .sent) memory hosts machines reply → r ≡ afterwards letter m
+        → Left (event s file w letter) (r .ends) (r .sent) memory hosts machines reply
+    machine-event h l = ended m r (rw (← e, h) l)
+
+    module _ (n : a ≡ false) {b : Bool} (g : b ≡ hostSends letter) where
+      pub host-event : b ≡ true → Left (hostTurn (s .host) file w (eqb letter 109)) (m .ends) (m .sent) memory hosts machines reply → r ≡ afterwards letter m
+          → Left (event s file w letter) (r .ends) (r .sent) memory hosts machines reply
+      host-event h l = ended m r (rw (← e, n, ← g, h) l)
+
+      pub no-turn : b ≡ false → Left (still w) (m .ends) (m .sent) memory hosts machines reply → r ≡ afterwards letter m
+          → Left (event s file w letter) (r .ends) (r .sent) memory hosts machines reply
+      no-turn h l = ended m r (rw (← e, n, ← g, h) l)
+
+-- the first step is the machine's timer, n, on the fresh ends
+pub begins : (s : Setup) (file memory : List ℕ) (hosts machines : List (List ℕ)) (reply : List ℕ)
+    → begin s (run freshEnds memory hosts machines reply) ≡ event s file (run freshEnds memory hosts machines reply) 110
+begins s file memory hosts machines reply = refl

@@ -1,47 +1,23 @@
 -- A rehearsal (PROTOCOL 8, 'Rehearsal'): what each event does, and the whole transcript of an input, over the
 -- definitions of the ends' calls, of the queues' places and of the lines.
 use Prim.Native.Nat.{ℕ}
-use mathlib.Core.Path.{_≡_}
-use mathlib.Core.Bool.{Bool, _||_, cond as pick}
+use mathlib.Core.Bool.{cond as pick}
 use mathlib.Core.List.{List, [], _∷_, _++_}
 use lib.ListN.{take, drop, replicate}
 use lib.Dec.{eqb}
-use Rattle.step.specs.Step.{Outcome}
-use Rattle.machine_record.specs.declared.Machine.{Machine}
+use Rattle.machine_record.specs.Record.{requesting}
 use Rattle.machine_timer.specs.Timer.{machineTimer}
-use Rattle.machine.specs.Machine.{machineFrame}
-use Rattle.load_record.specs.declared.Session.{Session}
-use Rattle.load.specs.Load.{loadFrame, loadTimer}
-use Rattle.queue.specs.Queue.{first, leave}
-use Rattle.transcript.specs.Transcript.{sentLine, badLine}
-use Rattle.host_turns.specs.Turn.{onFirst}
+use Rattle.queue.specs.Queue.{leave}
+use Rattle.transcript.specs.Transcript.{badLine}
+use Rattle.host_turns.specs.Turns.{hostHanded, hostTimed}
+use Rattle.machine_turns.specs.Turns.{machineHanded, machineTimed}
 use Rattle.job.specs.declared.Setup.{Setup}
 use Rattle.job.specs.declared.Ends.{Ends}
 use Rattle.job.specs.declared.Job.{Job}
 use Rattle.job.specs.Job.{Reading, reading}
-use Rattle.job.specs.Run.{Run, Step, run, frame, machineMoves, hostMoves, freshEnds, begin, beginLine, endLine}
+use Rattle.job.specs.Run.{Run, Step, run, frame, machineMoves, hostMoves, freshEnds, frameLine, beginLine, endLine}
 
 -- ---- one event
-module _ (s : Setup) (w : Run) where
-  -- the host's first frame is handed over to the machine
-  abbrev pub machineHanded : Outcome Machine (List ℕ)
-  machineHanded =
-      onFirst (first (w .ends .«from_host») (w .hostPlaces)) (w .ends .machine) (w .memory) (w .reply)
-      (machineFrame (s .machine) (w .ends .machine) (first (w .ends .«from_host») (w .hostPlaces)) (w .memory) (w .reply))
-
-  abbrev pub machineTimed : Outcome Machine (List ℕ)
-  machineTimed = machineTimer (s .machine) (w .ends .machine) (w .memory) (w .reply)
-
-  module _ (file : List ℕ) where
-    -- the machine's first frame is handed over to the host
-    abbrev pub hostHanded : Outcome Session Unit
-    hostHanded =
-        onFirst (first (w .ends .«from_machine») (w .machinePlaces)) (w .ends .session) tt (w .reply)
-        (loadFrame (s .host) (w .ends .session) file (first (w .ends .«from_machine») (w .machinePlaces)) (w .reply))
-
-    abbrev pub hostTimed : Outcome Session Unit
-    hostTimed = loadTimer (s .host) (w .ends .session) file (w .reply)
-
 -- nothing is sent
 abbrev pub still : Run → Step
 still w = record { run = w; sent = 0 }
@@ -66,25 +42,25 @@ machineLeaves t = with t (machineLeft (t .run .ends))
 -- h, k, x hand over, keep, drop from the host; t, u, y from the machine; m, n host and machine timer
 abbrev pub event : Setup → List ℕ → Run → ℕ → Step
 event s file w letter =
-    pick (eqb letter 104) (hostLeaves (machineMoves w (machineHanded s w)))
-    (pick (eqb letter 107) (machineMoves w (machineHanded s w))
+    pick (eqb letter 104) (hostLeaves (machineMoves w (machineHanded (s .machine) w)))
+    (pick (eqb letter 107) (machineMoves w (machineHanded (s .machine) w))
     (pick (eqb letter 120) (hostLeaves (still w))
-    (pick (eqb letter 116) (machineLeaves (hostMoves w (hostHanded s w file)))
-    (pick (eqb letter 117) (hostMoves w (hostHanded s w file))
+    (pick (eqb letter 116) (machineLeaves (hostMoves w (hostHanded (s .host) file w)))
+    (pick (eqb letter 117) (hostMoves w (hostHanded (s .host) file w))
     (pick (eqb letter 121) (machineLeaves (still w))
-    (pick (eqb letter 109) (hostMoves w (hostTimed s w file))
-    (pick (eqb letter 110) (machineMoves w (machineTimed s w))
+    (pick (eqb letter 109) (hostMoves w (hostTimed (s .host) file w))
+    (pick (eqb letter 110) (machineMoves w (machineTimed (s .machine) w))
     (still w))))))))
-
--- the host sends at t, u and m
-abbrev pub hostSends : ℕ → Bool
-hostSends letter = eqb letter 116 || (eqb letter 117 || eqb letter 109)
 
 -- the frame that was sent, if one was
 abbrev pub eventLine : ℕ → Step → List ℕ
-eventLine letter t = sentLine (hostSends letter) (frame t)
+eventLine letter t = frameLine letter (frame t)
 
 -- ---- the whole transcript
+-- the machine sends its first frame
+abbrev pub begin : Setup → Run → Step
+begin s w = machineMoves w (machineTimer (s .machine) requesting (w .memory) (w .reply))
+
 module _ (s : Setup) (file : List ℕ) where
   -- the run after events in turn
   unfoldable pub after : Run → List ℕ → Run

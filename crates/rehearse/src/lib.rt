@@ -1,50 +1,13 @@
 // The events of a rehearsal (PROTOCOL 8, 'Rehearsal').
 ghost use mathlib.Core.Path.{_≡_};
-ghost use Rattle.buffer.specs.Lay.{Came};
-ghost use Rattle.text.specs.Text.{placed};
 ghost use Rattle.job.specs.Run.{run, Left};
-ghost use Rattle.rehearse.specs.Inner.{machineMoved, hostMoved, machineSends, turn, leaving};
-ghost use Rattle.rehearse.specs.Rehearse.{hostLeft, machineLeft, event, hostSends, eventLine};
+ghost use Rattle.rehearse.specs.Inner.{machineSends, leaving, afterwards};
+ghost use Rattle.rehearse.specs.Rehearse.{hostLeft, machineLeft, event};
 use job::Ends;
 use job::Moved;
 use job::Setup;
 
-// What an event leaves: both ends, and the length of the frame in the reply buffer that was sent.
-struct Move {
-    ends: Ends,
-    sent: usize,
-}
-
-// The ends after a turn of the machine, or of the host.
-fn machine_moved(ends: Ends, turn: machine_turns::Turn) -> Move
-    ensures { λ r. ⌜ r ≡ machineMoved ends turn ⌝ }
-{
-    let machine = turn.machine;
-    let queue = turn.queue;
-    let mut next = ends;
-    next.machine = machine;
-    next.from_machine = queue;
-    Move {
-        ends: next,
-        sent: turn.sent,
-    }
-}
-
-fn host_moved(ends: Ends, turn: host_turns::Turn) -> Move
-    ensures { λ r. ⌜ r ≡ hostMoved ends turn ⌝ }
-{
-    let session = turn.session;
-    let queue = turn.queue;
-    let mut next = ends;
-    next.session = session;
-    next.from_host = queue;
-    Move {
-        ends: next,
-        sent: turn.sent,
-    }
-}
-
-// Whether it is the machine, or the host, that may send at an event.
+// Whether it is the machine that may send at an event.
 fn machine_sends(letter: u8) -> bool
     ensures { λ r. ⌜ r ≡ machineSends letter ⌝ }
 {
@@ -54,66 +17,6 @@ fn machine_sends(letter: u8) -> bool
         b'n' => true,
         _ => false,
     }
-}
-
-pub fn host_sends(letter: u8) -> bool
-    ensures { λ r. ⌜ r ≡ hostSends letter ⌝ }
-{
-    match letter {
-        b't' => true,
-        b'u' => true,
-        b'm' => true,
-        _ => false,
-    }
-}
-
-// The turn that an event's letter gives to an end, if it gives one.
-fn turn(
-    setup: Setup,
-    letter: u8,
-    ends: Ends,
-    file: &[u8],
-    memory: &mut [u8],
-    host_places: &mut [[u8; 1500]; 16],
-    machine_places: &mut [[u8; 1500]; 16],
-    reply: &mut [u8],
-) -> Move
-    ensures { λ r. ⌜ Left (turn setup (now (file .entry)) (run ends (now (memory .entry)) (now («host_places» .entry)) (now («machine_places» .entry)) (now (reply .entry))) letter)
-        (r .ends) (r .sent) (now (memory .exit)) (now («host_places» .exit)) (now («machine_places» .exit)) (now (reply .exit)) ⌝ }
-{
-    let h = ends.from_host;
-    let m = ends.from_machine;
-    if machine_sends(letter) {
-        let machine = ends.machine;
-        let turn = machine_turns::act(
-            setup.machine,
-            machine,
-            m,
-            letter == b'n',
-            memory,
-            h,
-            host_places,
-            machine_places,
-            reply,
-        );
-        return machine_moved(ends, turn);
-    }
-    if host_sends(letter) {
-        let session = ends.session;
-        let turn = host_turns::act(
-            setup.host,
-            session,
-            h,
-            letter == b'm',
-            file,
-            m,
-            machine_places,
-            host_places,
-            reply,
-        );
-        return host_moved(ends, turn);
-    }
-    Move { ends, sent: 0 }
 }
 
 // The host's first frame leaves its queue, or the machine's.
@@ -148,7 +51,17 @@ fn leave(letter: u8, ends: Ends) -> Ends
     }
 }
 
-// One event, and the line of the frame that it sends.
+// A step and then the frame that leaves.
+fn left(letter: u8, moved: Moved) -> Moved
+    ensures { λ r. ⌜ r ≡ afterwards letter moved ⌝ }
+{
+    Moved {
+        ends: leave(letter, moved.ends),
+        sent: moved.sent,
+    }
+}
+
+// One event: the turn that its letter gives to an end, if it gives one, and the frame that leaves.
 pub fn event(
     setup: Setup,
     letter: u8,
@@ -158,27 +71,33 @@ pub fn event(
     host_places: &mut [[u8; 1500]; 16],
     machine_places: &mut [[u8; 1500]; 16],
     reply: &mut [u8],
-    line: &mut [u8],
 ) -> Moved
     ensures { λ r. ⌜ Left (event setup (now (file .entry)) (run ends (now (memory .entry)) (now («host_places» .entry)) (now («machine_places» .entry)) (now (reply .entry))) letter)
-        (r .ends) (r .sent) (now (memory .exit)) (now («host_places» .exit)) (now («machine_places» .exit)) (now (reply .exit))
-        × Came (placed (eventLine letter (event setup (now (file .entry)) (run ends (now (memory .entry)) (now («host_places» .entry)) (now («machine_places» .entry)) (now (reply .entry))) letter)) (now (line .entry))) (r .line) (now (line .exit)) ⌝ }
+        (r .ends) (r .sent) (now (memory .exit)) (now («host_places» .exit)) (now («machine_places» .exit)) (now (reply .exit)) ⌝ }
 {
-    let moved = turn(
-        setup,
-        letter,
-        ends,
-        file,
-        memory,
-        host_places,
-        machine_places,
-        reply,
-    );
-    let written = transcript::sent(host_sends(letter), text::part(reply, 0, moved.sent), line);
-    let ends = leave(letter, moved.ends);
-    Moved {
-        ends,
-        sent: moved.sent,
-        line: written,
+    if machine_sends(letter) {
+        let moved = machine_turns::act(
+            setup.machine,
+            ends,
+            letter == b'n',
+            memory,
+            host_places,
+            machine_places,
+            reply,
+        );
+        return left(letter, moved);
     }
+    if job::host_sends(letter) {
+        let moved = host_turns::act(
+            setup.host,
+            ends,
+            letter == b'm',
+            file,
+            machine_places,
+            host_places,
+            reply,
+        );
+        return left(letter, moved);
+    }
+    left(letter, Moved { ends, sent: 0 })
 }

@@ -13,8 +13,8 @@ use Rattle.machine_timer.specs.Timer.{onTimer}
 use Rattle.load_record.specs.declared.Session.{Session}
 use Rattle.queue.specs.Queue.{empty}
 use Rattle.job.specs.declared.Setup.{Setup}
-use Rattle.job.specs.Run.{Run, run, freshEnds, begin, endLine}
-use Rattle.rehearse.specs.Rehearse.{event, eventLine, after, lines, places}
+use Rattle.job.specs.Run.{Run, run, freshEnds, endLine}
+use Rattle.rehearse.specs.Rehearse.{event, eventLine, begin, after, lines, places}
 use Rattle.link.specs.Link.{Frame, Turn, World, Ends, Event, machineTurn}
 use Rattle.link.specs.MachineEnd.{End, machineEnd}
 use Rattle.link.specs.CallLaws.{told-as}

@@ -6,8 +6,8 @@ use lib.ListN.{replicate}
 use Rattle.load_record.specs.declared.Session.{Session}
 use Rattle.job.specs.declared.Setup.{Setup}
 use Rattle.job.specs.Job.{Reading, reading}
-use Rattle.job.specs.Run.{Run, begin}
-use Rattle.rehearse.specs.Rehearse.{after, fresh, lettersOf, fileOf}
+use Rattle.job.specs.Run.{Run}
+use Rattle.rehearse.specs.Rehearse.{begin, after, fresh, lettersOf, fileOf}
 use Rattle.link.specs.Link.{World, Ends, Event}
 use Rattle.link.specs.MachineEnd.{End}
 use Rattle.link_load.specs.Model.{loadEnds, freshWorld}

@@ -25,11 +25,13 @@ use Rattle.load.specs.Load.{loadFrame}
 use Rattle.queue.specs.declared.Queue.{Queue}
 use Rattle.queue.specs.Queue as queue
 use Rattle.queue.specs.Queue.{leave, sent, keeps}
-use Rattle.host_turns.specs.Turn.{frameOf}
+use Rattle.job.specs.Turn.{frameOf}
 use Rattle.job.specs.declared.Setup.{Setup}
 use Rattle.job.specs.declared.Ends.{Ends}
 use Rattle.job.specs.Run.{Run, Step, run, machineMoves, hostMoves}
-use Rattle.rehearse.specs.Rehearse.{machineHanded, machineTimed, hostHanded, hostTimed, still, hostLeaves, machineLeaves, event}
+use Rattle.host_turns.specs.Turns.{hostHanded, hostTimed}
+use Rattle.machine_turns.specs.Turns.{machineHanded, machineTimed}
+use Rattle.rehearse.specs.Rehearse.{still, hostLeaves, machineLeaves, event}
 use Rattle.link.specs.Link as link
 use Rattle.link.specs.Link.{Frame, acts, turned, World, Event, own, Own, handToMachine, keepToMachine, dropToMachine, handToHost, keepToHost, dropToHost, machineTurn, hostTurn, ownStep, queued}
 use Rattle.link.specs.LinkLaws.{handedToMachine, keptToMachine, droppedToMachine, handedToHost, keptToHost, droppedToHost}
@@ -170,17 +172,17 @@ module _ (s : Setup) (file : List ℕ) (narrow : s .host .«segment_size» ≤ w
       )
 
   -- ---- timers
-  machine-timed : P (machineMoves r (machineTimed s r)) (own (link.machineTimer b) ∷ [])
+  machine-timed : P (machineMoves r (machineTimed (s .machine) r)) (own (link.machineTimer b) ∷ [])
   machine-timed =
       let a = onTimer (s .machine) m (r .memory) in
-      machine-acts (machineTimed s r) a (given machineEnd machineRefusal m (r .memory) b a (u .machineTimer b room-left)) (timer-runs (s .machine) m (r .memory) (room .running))
+      machine-acts (machineTimed (s .machine) r) a (given machineEnd machineRefusal m (r .memory) b a (u .machineTimer b room-left)) (timer-runs (s .machine) m (r .memory) (room .running))
       from-host (room .hosts) (link.machineTimer b) refl
 
-  host-timed : P (hostMoves r (hostTimed s r file)) (own (link.hostTimer b) ∷ [])
+  host-timed : P (hostMoves r (hostTimed (s .host) file r)) (own (link.hostTimer b) ∷ [])
   host-timed =
       let next = load-timer.onTimer (load-checks.frames file S) (s .host .repeats) h in
       let a = load.does file S next in
-      host-acts (hostTimed s r file) a (given hostEnd hostRefusal h tt b a (u .hostTimer b room-left)) (host-short file S next narrow) from-machine (room .machines) (link.hostTimer b) refl
+      host-acts (hostTimed (s .host) file r) a (given hostEnd hostRefusal h tt b a (u .hostTimer b room-left)) (host-short file S next narrow) from-machine (room .machines) (link.hostTimer b) refl
 
   -- ---- the first frame of a queue, handed over: the end acts on it, if there is one
   abbrev first-host : Frame
@@ -191,51 +193,51 @@ module _ (s : Setup) (file : List ℕ) (narrow : s .host .«segment_size» ≤ w
 
   to-machine : (q : Queue) → Ring q (r .hostPlaces) → (from-host .many ≡ 0 → q .many ≡ 0) → (e : Own) → (w .toMachine ≡ [] → ownStep ends w e ≡ w)
       → (0 < from-host .many → ownStep ends w e ≡ machineTurn w (frames q (r .hostPlaces)) (ends .machineFrame (w .machine) first-host b))
-      → P (machineStep (machineHanded s r) q) (own e ∷ [])
+      → P (machineStep (machineHanded (s .machine) r) q) (own e ∷ [])
   unfolding Runs
   to-machine q g left e without with-one = by-number (from-host .many) none some
     where
-      none : from-host .many ≡ 0 → P (machineStep (machineHanded s r) q) (own e ∷ [])
+      none : from-host .many ≡ 0 → P (machineStep (machineHanded (s .machine) r) q) (own e ∷ [])
       none z =
           let empty = empty-frames from-host (r .hostPlaces) (room .hosts) z in
-          let o : machineHanded s r ≡ gives (ignores m (r .memory)) b = rw (eq-eqb (from-host .many) 0 z) in
+          let o : machineHanded (s .machine) r ≡ gives (ignores m (r .memory)) b = rw (eq-eqb (from-host .many) 0 z) in
           let same : w ≡ machineTurn w (frames q (r .hostPlaces)) (acts (w .machine) []) = rw (append-nil, empty, empty-frames q (r .hostPlaces) g (left z)) in
-          machine-acts (machineHanded s r) (ignores m (r .memory)) o (room .running, tt) q g e
+          machine-acts (machineHanded (s .machine) r) (ignores m (r .memory)) o (room .running, tt) q g e
           (without empty ∙ same ∙ ap (λ (x : Outcome Machine (List ℕ)). machineTurn w (frames q (r .hostPlaces)) (turned machineEnd x)) (sym o))
 
-      some : 0 < from-host .many → P (machineStep (machineHanded s r) q) (own e ∷ [])
+      some : 0 < from-host .many → P (machineStep (machineHanded (s .machine) r) q) (own e ∷ [])
       some z =
           let f = first-host in
           let react : Fields → Act Machine (List ℕ) = λ x. machine-next.react (s .machine) m x f (r .memory) in
           let accepted = u .machineFrame f (frames (leave from-host) (r .hostPlaces)) b (leaves from-host (r .hostPlaces) z) room-left in
           let bytes : length f ≡ 0 → ⊥ = λ k. accepted (no-bytes machineEnd machineRefusal f m (r .memory) b react k) in
-          let handed : machineHanded s r ≡ machineFrame (s .machine) m f (r .memory) b = rw (ne-eqb (length f) 0 bytes) in
-          machine-acts (machineHanded s r) (react (fields f)) (handed ∙ given machineEnd (first (machineRefusal ∷ fields f .refusal ∷ [])) m (r .memory) b (react (fields f)) accepted)
+          let handed : machineHanded (s .machine) r ≡ machineFrame (s .machine) m f (r .memory) b = rw (ne-eqb (length f) 0 bytes) in
+          machine-acts (machineHanded (s .machine) r) (react (fields f)) (handed ∙ given machineEnd (first (machineRefusal ∷ fields f .refusal ∷ [])) m (r .memory) b (react (fields f)) accepted)
           (machine-runs (s .machine) m (r .memory) (room .running) (fields f) f) q g e
           (with-one z ∙ ap (λ (x : Outcome Machine (List ℕ)). machineTurn w (frames q (r .hostPlaces)) (turned machineEnd x)) (sym handed))
 
   to-host : (q : Queue) → Ring q (r .machinePlaces) → (from-machine .many ≡ 0 → q .many ≡ 0) → (e : Own) → (w .toHost ≡ [] → ownStep ends w e ≡ w)
       → (0 < from-machine .many → ownStep ends w e ≡ hostTurn w (frames q (r .machinePlaces)) (ends .hostFrame (w .host) first-machine b))
-      → P (hostStep (hostHanded s r file) q) (own e ∷ [])
+      → P (hostStep (hostHanded (s .host) file r) q) (own e ∷ [])
   to-host q g left e without with-one = by-number (from-machine .many) none some
     where
-      none : from-machine .many ≡ 0 → P (hostStep (hostHanded s r file) q) (own e ∷ [])
+      none : from-machine .many ≡ 0 → P (hostStep (hostHanded (s .host) file r) q) (own e ∷ [])
       none z =
           let empty = empty-frames from-machine (r .machinePlaces) (room .machines) z in
-          let o : hostHanded s r file ≡ gives (ignores h tt) b = rw (eq-eqb (from-machine .many) 0 z) in
+          let o : hostHanded (s .host) file r ≡ gives (ignores h tt) b = rw (eq-eqb (from-machine .many) 0 z) in
           let count : n ≡ n + 0 = omega arith in
           let same : w ≡ hostTurn w (frames q (r .machinePlaces)) (acts h []) = rw (append-nil, empty, empty-frames q (r .machinePlaces) g (left z), ← count) in
-          host-acts (hostHanded s r file) (ignores h tt) o tt q g e
+          host-acts (hostHanded (s .host) file r) (ignores h tt) o tt q g e
           (without empty ∙ same ∙ ap (λ (x : Outcome Session Unit). hostTurn w (frames q (r .machinePlaces)) (turned hostEnd x)) (sym o))
 
-      some : 0 < from-machine .many → P (hostStep (hostHanded s r file) q) (own e ∷ [])
+      some : 0 < from-machine .many → P (hostStep (hostHanded (s .host) file r) q) (own e ∷ [])
       some z =
           let f = first-machine in
           let react : Fields → Act Session Unit = λ x. load.does file S (load-next.react (load-checks.frames file S) h x) in
           let accepted = u .hostFrame f (frames (leave from-machine) (r .machinePlaces)) b (leaves from-machine (r .machinePlaces) z) room-left in
           let bytes : length f ≡ 0 → ⊥ = λ k. accepted (no-bytes hostEnd hostRefusal f h tt b react k) in
-          let handed : hostHanded s r file ≡ loadFrame (s .host) h file f b = rw (ne-eqb (length f) 0 bytes) in
-          host-acts (hostHanded s r file) (react (fields f)) (handed ∙ given hostEnd (first (hostRefusal ∷ fields f .refusal ∷ [])) h tt b (react (fields f)) accepted)
+          let handed : hostHanded (s .host) file r ≡ loadFrame (s .host) h file f b = rw (ne-eqb (length f) 0 bytes) in
+          host-acts (hostHanded (s .host) file r) (react (fields f)) (handed ∙ given hostEnd (first (hostRefusal ∷ fields f .refusal ∷ [])) h tt b (react (fields f)) accepted)
           (host-short file S (load-next.react (load-checks.frames file S) h (fields f)) narrow) q g e
           (with-one z ∙ ap (λ (x : Outcome Session Unit). hostTurn w (frames q (r .machinePlaces)) (turned hostEnd x)) (sym handed))
 
@@ -246,22 +248,22 @@ module _ (s : Setup) (file : List ℕ) (narrow : s .host .«segment_size» ≤ w
   machines-left : Ring (leave from-machine) (r .machinePlaces)
   machines-left = leave-ring from-machine (r .machinePlaces) (room .machines)
 
-  hands-to-machine : P (hostLeaves (machineMoves r (machineHanded s r))) (own (handToMachine b) ∷ [])
+  hands-to-machine : P (hostLeaves (machineMoves r (machineHanded (s .machine) r))) (own (handToMachine b) ∷ [])
   hands-to-machine =
       to-machine (leave from-host) hosts-left (left-none from-host) (handToMachine b) (ap (handedToMachine ends w b))
       (λ z. ap (handedToMachine ends w b) (leaves from-host (r .hostPlaces) z))
 
-  keeps-to-machine : P (machineMoves r (machineHanded s r)) (own (keepToMachine b) ∷ [])
+  keeps-to-machine : P (machineMoves r (machineHanded (s .machine) r)) (own (keepToMachine b) ∷ [])
   keeps-to-machine =
       to-machine from-host (room .hosts) (λ z. z) (keepToMachine b) (ap (keptToMachine ends w b))
       (λ z. let e = leaves from-host (r .hostPlaces) z in ap (keptToMachine ends w b) e ∙ ap (λ (l : List Frame). machineTurn w l (ends .machineFrame (w .machine) first-host b)) (sym e))
 
-  hands-to-host : P (machineLeaves (hostMoves r (hostHanded s r file))) (own (handToHost b) ∷ [])
+  hands-to-host : P (machineLeaves (hostMoves r (hostHanded (s .host) file r))) (own (handToHost b) ∷ [])
   hands-to-host =
       to-host (leave from-machine) machines-left (left-none from-machine) (handToHost b) (ap (handedToHost ends w b))
       (λ z. ap (handedToHost ends w b) (leaves from-machine (r .machinePlaces) z))
 
-  keeps-to-host : P (hostMoves r (hostHanded s r file)) (own (keepToHost b) ∷ [])
+  keeps-to-host : P (hostMoves r (hostHanded (s .host) file r)) (own (keepToHost b) ∷ [])
   keeps-to-host =
       to-host from-machine (room .machines) (λ z. z) (keepToHost b) (ap (keptToHost ends w b))
       (λ z. let e = leaves from-machine (r .machinePlaces) z in ap (keptToHost ends w b) e ∙ ap (λ (l : List Frame). hostTurn w l (ends .hostFrame (w .host) first-machine b)) (sym e))

@@ -13,8 +13,8 @@ use borrow.Author.Tests.{eq-eqb}
 use Rattle.machine_record.specs.Record as machine
 use Rattle.machine_checks.specs.Checks as machineChecks
 use Rattle.load_record.specs.declared.Session.{Session}
-use Rattle.job.specs.Run.{begin, beginLine, endLine}
-use Rattle.rehearse.specs.Rehearse.{fresh, places, lettersOf, transcript}
+use Rattle.job.specs.Run.{beginLine, endLine}
+use Rattle.rehearse.specs.Rehearse.{begin, fresh, places, lettersOf, transcript}
 use Rattle.link.specs.Link.{World, Event, run}
 use Rattle.link.specs.Bounded.{runWithin, Alike}
 use Rattle.link.specs.Theorem.{bounded}

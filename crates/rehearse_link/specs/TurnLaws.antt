@@ -28,7 +28,7 @@ use Rattle.load_record.specs.declared.Next.{Next}
 use Rattle.load_checks.specs.Checks.{frames}
 use Rattle.load.specs.Load.{does}
 use Rattle.load.specs.Laws.{numbered-short}
-use Rattle.host_turns.specs.Turn.{frameOf}
+use Rattle.job.specs.Turn.{frameOf}
 use Rattle.link.specs.Link.{Frame, refuses, acts, turned, queued}
 use Rattle.link.specs.CallLaws.{told-as}
 use Rattle.rehearse_link.specs.RingLaws.{asFrames}

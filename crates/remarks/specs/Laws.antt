@@ -19,7 +19,7 @@ use Rattle.words.specs.Laws.{spoken-most}
 use Rattle.transcript.specs.Laws.{nothing-placed}
 use Rattle.transcript.specs.Transcript.{initial}
 use Rattle.job.specs.declared.Ends.{Ends}
-use Rattle.rehearse.specs.Rehearse.{hostSends}
+use Rattle.job.specs.Run.{hostSends}
 use Rattle.remarks.specs.Remarks.{spaces, besideLine, notedLine, silentRow, sentWords, remark, fullBefore, lost}
 
 -- words that were laid behind k of 330 spaces

@@ -14,7 +14,7 @@ use Rattle.words.specs.declared.Words.{Words}
 use Rattle.words.specs.Words.{phrase, spoken, frameWords, lineRow, machineRow, hostRow, fullRow, refusalRow, reportWords}
 use Rattle.transcript.specs.Transcript.{initial}
 use Rattle.job.specs.declared.Ends.{Ends}
-use Rattle.rehearse.specs.Rehearse.{hostSends}
+use Rattle.job.specs.Run.{hostSends}
 
 -- words begin in column 24, or two places behind the bytes
 abbrev pub gap : ℕ → ℕ

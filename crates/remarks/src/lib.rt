@@ -62,7 +62,7 @@ fn sent_words(letter: u8, after: Ends, frame: &[u8]) -> Words
 {
     let machine = after.machine;
     let f = reader::read(frame);
-    if rehearse::host_sends(letter) {
+    if job::host_sends(letter) {
         return words::frame(
             f,
             machine.state == 4,
@@ -80,7 +80,7 @@ pub fn remark(letter: u8, before: Ends, after: Ends, frame: &[u8], out: &mut [u8
     if frame.len() == 0 {
         return noted(letter, silent_row(letter, before, after), out);
     }
-    let first = transcript::initial(rehearse::host_sends(letter));
+    let first = transcript::initial(job::host_sends(letter));
     beside(first, frame, sent_words(letter, after, frame), out)
 }
 
@@ -88,7 +88,7 @@ pub fn remark(letter: u8, before: Ends, after: Ends, frame: &[u8], out: &mut [u8
 fn full_before(letter: u8, before: Ends) -> bool
     ensures { λ r. ⌜ r ≡ fullBefore letter before ⌝ }
 {
-    if rehearse::host_sends(letter) {
+    if job::host_sends(letter) {
         return queue::is_full(before.from_host);
     }
     queue::is_full(before.from_machine)

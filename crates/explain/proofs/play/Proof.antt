@@ -2,66 +2,53 @@ use Prim.Native.Nat.{_-_, _≤_}
 use mathlib.Core.Path.{_≡_}
 use native.Mathlib.Omega.{arith}
 use lib.ListN.{length}
+use borrow.Author.Needs.{needs}
 use Rattle.explain.proofs.play.Statement.{statement}
 use Rattle.explain.proofs.play.Tie as tie
 
 abbrev Inv-loop : tie.InvT-loop
-Inv-loop job letters file memory₀ host-places₀ machine-places₀ reply₀ line₀ setup ends₀ i₀ memory host-places machine-places reply line ends i =
-    (i ≤ length letters) × (length memory ≡ length memory₀) × (length reply ≡ length reply₀) × (length line ≡ length line₀)
+Inv-loop job letters file memory₀ host-places₀ machine-places₀ reply₀ setup ends₀ i₀ memory host-places machine-places reply ends i =
+    (i ≤ length letters) × (length memory ≡ length memory₀) × (length reply ≡ 1500)
 
 abbrev μ-loop : tie.MeasureT-loop
-μ-loop job letters file memory₀ host-places₀ machine-places₀ reply₀ line₀ setup ends₀ i₀ memory host-places machine-places reply line ends i =
+μ-loop job letters file memory₀ host-places₀ machine-places₀ reply₀ setup ends₀ i₀ memory host-places machine-places reply ends i =
     length letters - i
 
-begin-requires : tie.Need-begin-requires Inv-loop μ-loop
-begin-requires c κs = tt
+fresh-requires : tie.Need-fresh-requires Inv-loop μ-loop
+fresh-requires c κs = tt
 
-part-requires : tie.Need-part-requires Inv-loop μ-loop
-part-requires c κs = tt
+slice-aggregate-step : tie.Need-slice-aggregate-step Inv-loop μ-loop
+slice-aggregate-step c = search needs
 
-explain-requires : tie.Need-explain-requires Inv-loop μ-loop
-explain-requires c κs = tt
+step-requires : tie.Need-step-requires Inv-loop μ-loop
+step-requires c κs = tt
 
 loop-holds : tie.Need-loop-holds Inv-loop μ-loop
 loop-holds c = omega arith
 
-shared-slice-read-letter : tie.Need-shared-slice-read-letter Inv-loop μ-loop
-shared-slice-read-letter c = omega arith
+shared-slice-read-step : tie.Need-shared-slice-read-step Inv-loop μ-loop
+shared-slice-read-step c = omega arith
 
-event-requires : tie.Need-event-requires Inv-loop μ-loop
-event-requires c κs = tt
+slice-aggregate-step-2 : tie.Need-slice-aggregate-step-2 Inv-loop μ-loop
+slice-aggregate-step-2 c = search needs
 
-part-requires-2 : tie.Need-part-requires-2 Inv-loop μ-loop
-part-requires-2 c κs = tt
-
-explain-requires-2 : tie.Need-explain-requires-2 Inv-loop μ-loop
-explain-requires-2 c κs = tt
+step-requires-2 : tie.Need-step-requires-2 Inv-loop μ-loop
+step-requires-2 c κs = tt
 
 add-i : tie.Need-add-i Inv-loop μ-loop
-add-i c =
-    let went = c .before .before .before .before .before .before .before .before .before .before .before .before .before .before .before .before .before .before .before .before in
-    omega (arith, went .loop-test .taken, went .before .before .before .before .before .before .before .before .before .before .before .before .before .before .before .before .before .before .before .before .before .before .before .before .good)
+add-i c = omega (arith, c .before .before .before .before .before .before .before .before .before .loop-test .taken, c .before .before .before .before .before .before .before .before .before .before .before .before .before .before .before .before .before .before .before .before .before .before .before .before .good)
 
 loop-less : tie.Need-loop-less Inv-loop μ-loop
 loop-less c = omega arith
 
 loop-again : tie.Need-loop-again Inv-loop μ-loop
-loop-again c =
-    let went = c .before .before .before .before .before .before .before .before .before in
-    let at = went .before .before .before .before .before .before .before .before .before .before .before .before in
-    omega (arith, at .loop .inv, went .before .before .before .before .before .before .before .before .before .before .before .loop-test .taken, went .before .before .before .memory .given, went .before .reply2 .given, c .before .before .before .before .before .before .before .before .line3 .given, c .before .line4 .given)
+loop-again c = omega arith
 
 close-requires : tie.Need-close-requires Inv-loop μ-loop
 close-requires c κs = tt
 
 same-length : tie.Need-same-length Inv-loop μ-loop
 same-length c = omega arith
-
-same-length-2 : tie.Need-same-length-2 Inv-loop μ-loop
-same-length-2 c = omega arith
-
-same-length-3 : tie.Need-same-length-3 Inv-loop μ-loop
-same-length-3 c = omega arith
 
 returns : tie.Need-returns Inv-loop μ-loop
 returns c = tt
@@ -72,19 +59,16 @@ play-spec =
     (tie.spec
     Inv-loop
     μ-loop
-    begin-requires
-    part-requires
-    explain-requires
+    fresh-requires
+    slice-aggregate-step
+    step-requires
     loop-holds
-    shared-slice-read-letter
-    event-requires
-    part-requires-2
-    explain-requires-2
+    shared-slice-read-step
+    slice-aggregate-step-2
+    step-requires-2
     add-i
     loop-less
     loop-again
     close-requires
     same-length
-    same-length-2
-    same-length-3
     returns)

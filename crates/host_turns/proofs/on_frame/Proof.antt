@@ -1,7 +1,5 @@
-use Prim.Native.Nat.{ℕ}
-use mathlib.Core.List.{List}
-use Rattle.load.specs.Load.{loadFrame}
-use Rattle.host_turns.specs.Laws.{turned, none-first, some-first}
+use Rattle.job.specs.Run.{run}
+use Rattle.host_turns.specs.Laws.{none-left, some-left}
 use borrow.Author.Needs.{needs}
 use Rattle.host_turns.proofs.on_frame.Statement.{statement}
 use Rattle.host_turns.proofs.on_frame.Tie as tie
@@ -10,7 +8,9 @@ first-requires : tie.Need-first-requires
 first-requires c κs = search needs
 
 returns : tie.Need-returns
-returns c = let a = c .before .before .before .before .args in none-first (λ (f : List ℕ). loadFrame (a .settings) (a .session) (a .file .now) f (a .reply .now)) (a .queue) (a .places .now) (a .session) tt (a .reply .now) _ _ (c .before .first .ensures) (c .if1 .taken)
+returns c = λ memory.
+    let a = c .before .before .before .before .args in
+    none-left (a .settings) (a .file .now) (run (a .ends) memory (a .places .now) (a .machine-places .now) (a .reply .now)) _ (c .before .first .ensures) (c .if1 .taken)
 
 frame-requires : tie.Need-frame-requires
 frame-requires c κs = search needs
@@ -22,7 +22,9 @@ same-length : tie.Need-same-length
 same-length c = search needs
 
 returns-2 : tie.Need-returns-2
-returns-2 c = let a = c .before .before .before .before .before .before .before .before .before .before .before .before .args in some-first (λ (f : List ℕ). loadFrame (a .settings) (a .session) (a .file .now) f (a .reply .now)) (a .queue) (a .places .now) (a .session) tt (a .reply .now) _ _ (c .before .before .before .before .before .before .before .before .before .first .ensures) (c .before .before .before .before .before .before .before .before .if1 .left) (turned (loadFrame (a .settings) (a .session) (a .file .now) _ (a .reply .now)) (a .queue) (a .places .now) (c .before .before .before .before .before .before .frame .ensures) (c .send .ensures))
+returns-2 c = λ memory.
+    let a = c .before .before .before .before .before .before .before .before .before .before .before .args in
+    some-left (a .settings) (a .file .now) (run (a .ends) memory (a .places .now) (a .machine-places .now) (a .reply .now)) _ (c .before .before .before .before .before .before .before .before .first .ensures) (c .before .before .before .before .before .before .before .if1 .left) (c .before .before .before .before .before .frame .ensures) (c .send .ensures)
 
 pub on-frame-spec : {M : Type 1} → statement M
 on-frame-spec =

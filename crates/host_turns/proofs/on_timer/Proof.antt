@@ -1,5 +1,6 @@
-use Rattle.load.specs.Load.{loadTimer}
-use Rattle.host_turns.specs.Laws.{turned}
+use Rattle.job.specs.Run.{run}
+use Rattle.job.specs.Laws.{host-left}
+use Rattle.host_turns.specs.Turns.{hostTimed}
 use borrow.Author.Needs.{needs}
 use Rattle.host_turns.proofs.on_timer.Statement.{statement}
 use Rattle.host_turns.proofs.on_timer.Tie as tie
@@ -14,7 +15,10 @@ same-length : tie.Need-same-length
 same-length c = search needs
 
 returns : tie.Need-returns
-returns c = let a = c .before .before .before .before .before .before .before .before .before .before .args in turned (loadTimer (a .settings) (a .session) (a .file .now) (a .reply .now)) (a .queue) (a .places .now) (c .before .before .before .before .before .before .timer .ensures) (c .send .ensures)
+returns c = λ memory machines.
+    let a = c .before .before .before .before .before .before .before .before .before .args in
+    let w = run (a .ends) memory (a .places .now) machines (a .reply .now) in
+    host-left w (hostTimed (a .settings) (a .file .now) w) (c .before .before .before .before .before .timer .ensures) (c .send .ensures)
 
 pub on-timer-spec : {M : Type 1} → statement M
 on-timer-spec = tie.close (tie.spec timer-requires send-requires same-length returns)

@@ -12,7 +12,7 @@ same-length-2 : tie.Need-same-length-2
 same-length-2 c = search needs
 
 returns : tie.Need-returns
-returns c = rw (c .before .before .before .before .before .before .if1 .taken) (c .before .before .on-timer .ensures)
+returns c = rw (c .before .before .before .before .before .before .if1 .taken) (c .before .before .on-timer .ensures (c .before .before .before .before .before .before .before .before .before .args .host-places .now))
 
 on-frame-requires : tie.Need-on-frame-requires
 on-frame-requires c κs = search needs

@@ -1,7 +1,5 @@
-use Prim.Native.Nat.{ℕ}
-use mathlib.Core.List.{List}
-use Rattle.machine.specs.Machine.{machineFrame}
-use Rattle.host_turns.specs.Laws.{turned, none-first, some-first}
+use Rattle.job.specs.Run.{run}
+use Rattle.machine_turns.specs.Laws.{none-left, some-left}
 use borrow.Author.Needs.{needs}
 use Rattle.machine_turns.proofs.on_frame.Statement.{statement}
 use Rattle.machine_turns.proofs.on_frame.Tie as tie
@@ -10,7 +8,8 @@ first-requires : tie.Need-first-requires
 first-requires c κs = search needs
 
 returns : tie.Need-returns
-returns c = let a = c .before .before .before .before .args in none-first (λ (f : List ℕ). machineFrame (a .settings) (a .machine) f (a .memory .now) (a .reply .now)) (a .queue) (a .places .now) (a .machine) (a .memory .now) (a .reply .now) _ _ (c .before .first .ensures) (c .if1 .taken)
+returns c = let a = c .before .before .before .before .args in
+    none-left (a .settings) (run (a .ends) (a .memory .now) (a .host-places .now) (a .places .now) (a .reply .now)) _ (c .before .first .ensures) (c .if1 .taken)
 
 frame-requires : tie.Need-frame-requires
 frame-requires c κs = search needs
@@ -25,7 +24,8 @@ same-length-2 : tie.Need-same-length-2
 same-length-2 c = search needs
 
 returns-2 : tie.Need-returns-2
-returns-2 c = let a = c .before .before .before .before .before .before .before .before .before .before .before .before .before .before .before .args in some-first (λ (f : List ℕ). machineFrame (a .settings) (a .machine) f (a .memory .now) (a .reply .now)) (a .queue) (a .places .now) (a .machine) (a .memory .now) (a .reply .now) _ _ (c .before .before .before .before .before .before .before .before .before .before .before .before .first .ensures) (c .before .before .before .before .before .before .before .before .before .before .before .if1 .left) (turned (machineFrame (a .settings) (a .machine) _ (a .memory .now) (a .reply .now)) (a .queue) (a .places .now) (c .before .before .before .before .before .before .before .before .frame .ensures) (c .send .ensures))
+returns-2 c = let a = c .before .before .before .before .before .before .before .before .before .before .before .before .before .before .args in
+    some-left (a .settings) (run (a .ends) (a .memory .now) (a .host-places .now) (a .places .now) (a .reply .now)) _ (c .before .before .before .before .before .before .before .before .before .before .before .first .ensures) (c .before .before .before .before .before .before .before .before .before .before .if1 .left) (c .before .before .before .before .before .before .before .frame .ensures) (c .send .ensures)
 
 pub on-frame-spec : {M : Type 1} → statement M
 on-frame-spec =

@@ -1,5 +1,6 @@
-use Rattle.machine_timer.specs.Timer.{machineTimer}
-use Rattle.host_turns.specs.Laws.{turned}
+use Rattle.job.specs.Run.{run}
+use Rattle.job.specs.Laws.{machine-left}
+use Rattle.machine_turns.specs.Turns.{machineTimed}
 use borrow.Author.Needs.{needs}
 use Rattle.machine_turns.proofs.on_timer.Statement.{statement}
 use Rattle.machine_turns.proofs.on_timer.Tie as tie
@@ -14,7 +15,10 @@ same-length : tie.Need-same-length
 same-length c = search needs
 
 returns : tie.Need-returns
-returns c = let a = c .before .before .before .before .before .before .before .before .before .before .args in turned (machineTimer (a .settings) (a .machine) (a .memory .now) (a .reply .now)) (a .queue) (a .places .now) (c .before .before .before .before .before .before .timer .ensures) (c .send .ensures)
+returns c = λ hosts.
+    let a = c .before .before .before .before .before .before .before .before .before .args in
+    let w = run (a .ends) (a .memory .now) hosts (a .places .now) (a .reply .now) in
+    machine-left w (machineTimed (a .settings) w) (c .before .before .before .before .before .timer .ensures) (c .send .ensures)
 
 pub on-timer-spec : {M : Type 1} → statement M
 on-timer-spec = tie.close (tie.spec timer-requires send-requires same-length returns)

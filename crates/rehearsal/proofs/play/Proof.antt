@@ -2,39 +2,41 @@ use Prim.Native.Nat.{_-_, _≤_}
 use mathlib.Core.Path.{_≡_}
 use native.Mathlib.Omega.{arith}
 use lib.ListN.{length}
+use borrow.Author.Needs.{needs}
 use Rattle.rehearsal.proofs.play.Statement.{statement}
 use Rattle.rehearsal.proofs.play.Tie as tie
 
 abbrev Inv-loop : tie.InvT-loop
-Inv-loop setup letters file memory₀ host-places₀ machine-places₀ reply₀ line₀ ends₀ i₀ memory host-places machine-places reply line ends i =
-    (i ≤ length letters) × (length memory ≡ length memory₀) × (length reply ≡ length reply₀) × (length line ≡ length line₀)
+Inv-loop setup letters file memory₀ host-places₀ machine-places₀ reply₀ ends₀ i₀ memory host-places machine-places reply ends i =
+    (i ≤ length letters) × (length memory ≡ length memory₀) × (length reply ≡ 1500)
 
 abbrev μ-loop : tie.MeasureT-loop
-μ-loop setup letters file memory₀ host-places₀ machine-places₀ reply₀ line₀ ends₀ i₀ memory host-places machine-places reply line ends i =
+μ-loop setup letters file memory₀ host-places₀ machine-places₀ reply₀ ends₀ i₀ memory host-places machine-places reply ends i =
     length letters - i
 
-begin-requires : tie.Need-begin-requires Inv-loop μ-loop
-begin-requires c κs = tt
+fresh-requires : tie.Need-fresh-requires Inv-loop μ-loop
+fresh-requires c κs = tt
 
-print-requires : tie.Need-print-requires Inv-loop μ-loop
-print-requires c κs = tt
+slice-aggregate-step : tie.Need-slice-aggregate-step Inv-loop μ-loop
+slice-aggregate-step c = search needs
+
+step-requires : tie.Need-step-requires Inv-loop μ-loop
+step-requires c κs = tt
 
 loop-holds : tie.Need-loop-holds Inv-loop μ-loop
 loop-holds c = omega arith
 
-shared-slice-read-letter : tie.Need-shared-slice-read-letter Inv-loop μ-loop
-shared-slice-read-letter c = omega arith
+shared-slice-read-step : tie.Need-shared-slice-read-step Inv-loop μ-loop
+shared-slice-read-step c = omega arith
 
-event-requires : tie.Need-event-requires Inv-loop μ-loop
-event-requires c κs = tt
+slice-aggregate-step-2 : tie.Need-slice-aggregate-step-2 Inv-loop μ-loop
+slice-aggregate-step-2 c = search needs
 
-print-requires-2 : tie.Need-print-requires-2 Inv-loop μ-loop
-print-requires-2 c κs = tt
+step-requires-2 : tie.Need-step-requires-2 Inv-loop μ-loop
+step-requires-2 c κs = tt
 
 add-i : tie.Need-add-i Inv-loop μ-loop
-add-i c =
-    let went = c .before .before .before .before .before .before .before .before .before .before .before .before .before .before .before .before in
-    omega (arith, went .loop-test .taken, went .before .before .before .before .before .before .before .before .before .before .before .before .before .before .before .before .before .before .before .good)
+add-i c = omega (arith, c .before .before .before .before .before .before .before .before .before .loop-test .taken, c .before .before .before .before .before .before .before .before .before .before .before .before .before .before .before .before .before .before .before .before .before .before .before .good)
 
 loop-less : tie.Need-loop-less Inv-loop μ-loop
 loop-less c = omega arith
@@ -42,20 +44,11 @@ loop-less c = omega arith
 loop-again : tie.Need-loop-again Inv-loop μ-loop
 loop-again c = omega arith
 
-end-requires : tie.Need-end-requires Inv-loop μ-loop
-end-requires c κs = tt
-
-print-requires-3 : tie.Need-print-requires-3 Inv-loop μ-loop
-print-requires-3 c κs = tt
+close-requires : tie.Need-close-requires Inv-loop μ-loop
+close-requires c κs = tt
 
 same-length : tie.Need-same-length Inv-loop μ-loop
 same-length c = omega arith
-
-same-length-2 : tie.Need-same-length-2 Inv-loop μ-loop
-same-length-2 c = omega arith
-
-same-length-3 : tie.Need-same-length-3 Inv-loop μ-loop
-same-length-3 c = omega arith
 
 returns : tie.Need-returns Inv-loop μ-loop
 returns c = tt
@@ -66,18 +59,16 @@ play-spec =
     (tie.spec
     Inv-loop
     μ-loop
-    begin-requires
-    print-requires
+    fresh-requires
+    slice-aggregate-step
+    step-requires
     loop-holds
-    shared-slice-read-letter
-    event-requires
-    print-requires-2
+    shared-slice-read-step
+    slice-aggregate-step-2
+    step-requires-2
     add-i
     loop-less
     loop-again
-    end-requires
-    print-requires-3
+    close-requires
     same-length
-    same-length-2
-    same-length-3
     returns)

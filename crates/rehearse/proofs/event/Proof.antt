@@ -1,25 +1,18 @@
+use mathlib.Core.Path.{refl}
 use Rattle.job.specs.Run.{run}
-use Rattle.job.specs.Laws.{line-left}
-use Rattle.rehearse.specs.Rehearse.{event, hostSends}
-use Rattle.rehearse.specs.Laws.{left}
+use Rattle.rehearse.specs.Laws.{machine-event, host-event, no-turn}
 use borrow.Author.Needs.{needs}
 use Rattle.rehearse.proofs.event.Statement.{statement}
 use Rattle.rehearse.proofs.event.Tie as tie
 
-turn-requires : tie.Need-turn-requires
-turn-requires c κs = search needs
+machine-sends-requires : tie.Need-machine-sends-requires
+machine-sends-requires c κs = search needs
 
-host-sends-requires : tie.Need-host-sends-requires
-host-sends-requires c κs = search needs
+act-requires : tie.Need-act-requires
+act-requires c κs = search needs
 
-part-requires : tie.Need-part-requires
-part-requires c κs = search needs
-
-sent-requires : tie.Need-sent-requires
-sent-requires c κs = search needs
-
-leave-requires : tie.Need-leave-requires
-leave-requires c κs = search needs
+left-requires : tie.Need-left-requires
+left-requires c κs = search needs
 
 same-length : tie.Need-same-length
 same-length c = search needs
@@ -27,22 +20,47 @@ same-length c = search needs
 same-length-2 : tie.Need-same-length-2
 same-length-2 c = search needs
 
+returns : tie.Need-returns
+returns c = let a = c .before .before .before .before .before .before .before .before .before .before .before .before .before .before .before .args in
+    machine-event (a .setup) (a .file .now) (run (a .ends) (a .memory .now) (a .host-places .now) (a .machine-places .now) (a .reply .now)) (a .letter) (c .before .before .before .before .before .act .result) (c .left .result) (c .before .before .before .before .before .before .before .before .before .before .before .machine-sends .ensures) (c .before .before .before .before .before .before .before .before .before .before .if1 .taken) (c .before .before .before .before .before .act .ensures) (c .left .ensures)
+
+host-sends-requires : tie.Need-host-sends-requires
+host-sends-requires c κs = search needs
+
+act-requires-2 : tie.Need-act-requires-2
+act-requires-2 c κs = search needs
+
+left-requires-2 : tie.Need-left-requires-2
+left-requires-2 c κs = search needs
+
 same-length-3 : tie.Need-same-length-3
 same-length-3 c = search needs
 
-returns : tie.Need-returns
-returns c = let a = c .before .before .before .before .before .before .before .before .before .before .before .before .before .before .before .before .before .before .before .before .before .args in let w = run (a .ends) (a .memory .now) (a .host-places .now) (a .machine-places .now) (a .reply .now) in let l = left (a .setup) (a .file .now) w (a .letter) (c .before .before .before .before .before .before .before .before .before .before .before .before .turn .result) (c .leave .result) (c .before .before .before .before .before .before .before .before .before .before .before .before .turn .ensures) (c .leave .ensures) in (l, line-left (event (a .setup) (a .file .now) w (a .letter)) (hostSends (a .letter)) _ _ _ (a .line .now) (l .1) (l .5) (c .before .before .before .before .before .part .ensures) (rw (c .before .before .before .before .before .before .before .host-sends .ensures) at (c .before .before .before .sent .ensures)))
+returns-2 : tie.Need-returns-2
+returns-2 c = let a = c .before .before .before .before .before .before .before .before .before .before .before .before .before .before .args in
+    host-event (a .setup) (a .file .now) (run (a .ends) (a .memory .now) (a .host-places .now) (a .machine-places .now) (a .reply .now)) (a .letter) (c .before .before .before .act2 .result) (c .left2 .result) (c .before .before .before .before .before .before .before .before .before .before .machine-sends .ensures) (c .before .before .before .before .before .before .before .before .before .if1 .left) (c .before .before .before .before .before .before .before .before .host-sends .ensures) (c .before .before .before .before .before .before .before .if2 .taken) (c .before .before .before .act2 .ensures (a .memory .now)) (c .left2 .ensures)
+
+left-requires-3 : tie.Need-left-requires-3
+left-requires-3 c κs = search needs
+
+returns-3 : tie.Need-returns-3
+returns-3 c = let a = c .before .before .before .before .before .before .before .before .args in
+    no-turn (a .setup) (a .file .now) (run (a .ends) (a .memory .now) (a .host-places .now) (a .machine-places .now) (a .reply .now)) (a .letter) (record { ends = a .ends; sent = 0 }) (c .left3 .result) (c .before .before .before .before .machine-sends .ensures) (c .before .before .before .if1 .left) (c .before .before .host-sends .ensures) (c .before .if2 .left) (refl, refl, refl, refl, refl, refl) (c .left3 .ensures)
 
 pub event-spec : {M : Type 1} → statement M
 event-spec =
     tie.close
     (tie.spec
-    turn-requires
-    host-sends-requires
-    part-requires
-    sent-requires
-    leave-requires
+    machine-sends-requires
+    act-requires
+    left-requires
     same-length
     same-length-2
+    returns
+    host-sends-requires
+    act-requires-2
+    left-requires-2
     same-length-3
-    returns)
+    returns-2
+    left-requires-3
+    returns-3)

@@ -1,14 +1,11 @@
 -- A turn of an end in a rehearsal (PROTOCOL 8, 'Rehearsal'): a call of it, and the frame that it sends joins
 -- its queue. Generic in the end's record, H, and in what else it is lent to change, B.
 use Prim.Native.Nat.{ℕ}
-use mathlib.Core.Path.{_≡_}
 use mathlib.Core.Bool.{cond as pick}
 use mathlib.Core.List.{List}
 use lib.ListN.{length, take}
 use lib.Dec.{eqb}
 use Rattle.step.specs.Step.{Outcome, ignores, gives}
-use Rattle.queue.specs.declared.Queue.{Queue}
-use Rattle.queue.specs.Queue.{sent, keeps}
 
 module _ {H B : Type 0} where
   -- a call on the frame in front; if there is none nothing happens
@@ -18,10 +15,3 @@ module _ {H B : Type 0} where
   -- the frame that a call left in its reply buffer; no bytes are no frame
   abbrev pub frameOf : Outcome H B → List ℕ
   frameOf o = take (o .answer .length) (o .reply)
-
-  -- What came out of a turn: the record, what was lent, the frame's length and the reply buffer are the call's; the frame has
-  -- joined the queue.
-  abbrev pub Turned : Outcome H B → Queue → List (List ℕ) → H → B → ℕ → List ℕ → Queue → List (List ℕ) → Type 0
-  Turned o q places end lent length′ reply q′ places′ =
-      (end ≡ o .end) × (lent ≡ o .lent) × (length′ ≡ o .answer .length) × (reply ≡ o .reply)
-      × (q′ ≡ sent q (frameOf o)) × (places′ ≡ keeps q (frameOf o) places)

@@ -1,6 +1,6 @@
 use borrow.Author.Tests.{ne-eqb}
-use Rattle.rehearse.proofs.host_sends.Statement.{statement}
-use Rattle.rehearse.proofs.host_sends.Tie as tie
+use Rattle.job.proofs.host_sends.Statement.{statement}
+use Rattle.job.proofs.host_sends.Tie as tie
 
 returns : tie.Need-returns
 returns c = rw (c .match .keys1)
