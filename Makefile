@@ -136,7 +136,7 @@ examples: $(OUT)/load_and_dump $(OUT)/page
 	$(OUT)/page
 
 # Every call between guard pages, and wrong calls that the test must find; every number of the header, and wrong ones.
-GUARDS = main check lent make steps reading writing images machine load dump looping
+GUARDS = main check lent make steps reading writing images machine load strings dump looping
 
 $(OUT)/guards_%.o: tests/c/%.c $(wildcard tests/c/*.h) include/mop.h
 	@mkdir -p $(OUT)
@@ -185,7 +185,7 @@ lint: $(OUT)/page.inc $(OUT)/fields.inc
 DRIVER       = target/driver
 DRIVER_CC    = $(CC11) -D_GNU_SOURCE -Idriver
 PROGRAMS     = mopimage mopload mopdump mopmachine
-PARTS        = line lock privileges words options files part record report filing host progress sha256 pieces hexfiles listing
+PARTS        = line lock privileges words options files part record report filing host progress parameters sha256 pieces hexfiles listing
 
 driver: $(PROGRAMS:%=$(DRIVER)/%)
 
@@ -218,7 +218,7 @@ $(SANITIZED)/probe $(SANITIZED)/say $(SANITIZED)/digest $(SANITIZED)/storm: $(SA
 	@$(DRIVER_CC) $(SANITIZE) -o $@ $^
 
 # Mutated files and frames, always the same ones for a SEED. tests/fuzz/wrong tries whether the fuzzer finds faults.
-FUZZ  = main slow hex image line host machine
+FUZZ  = main slow hex image line host machine parameters
 COUNT = 1000000
 SEED  = 1
 

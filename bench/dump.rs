@@ -81,7 +81,7 @@ impl Ends for Proved {
 }
 
 struct Plain {
-    machine: machine::State,
+    machine: machine::Machine,
     host: dump::Session,
 }
 
@@ -100,15 +100,15 @@ const PLAIN_HOST: dump::Settings = dump::Settings {
 impl Ends for Plain {
     fn new() -> Self {
         Plain {
-            machine: machine::State::Idle,
+            machine: machine::Machine::fresh(machine::State::Idle),
             host: dump::Session::Waiting,
         }
     }
 
     fn offer(&mut self, memory: &[u8], reply: &mut [u8]) -> usize {
         let started = machine::start_dump(PLAIN_MACHINE, memory, reply);
-        let (state, sent) = started.expect("good settings");
-        self.machine = state;
+        let (fresh, sent) = started.expect("good settings");
+        self.machine = fresh;
         sent.unwrap_or(0)
     }
 

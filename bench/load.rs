@@ -13,10 +13,12 @@ use crate::{SEGMENT_SIZE, compare, proved};
 const PROVED: LoadSettings = LoadSettings {
     segment_size: SEGMENT_SIZE,
     repeats: 3,
+    with_parameters: 0,
 };
 const PLAIN: Settings = Settings {
     segment_size: SEGMENT_SIZE,
     repeats: 3,
+    parameters: None,
 };
 
 /// The host's record with a segment on its way, and the frame that answers it.
@@ -49,9 +51,10 @@ impl Answered {
     fn proved(&self, file: &[u8], reply: &mut [u8]) -> usize {
         let (image, from, to) = (file.as_ptr(), self.frame.as_ptr(), reply.as_mut_ptr());
         let (size, length, room) = (file.len(), self.frame.len(), reply.len());
+        let (record, none) = (self.proved, std::ptr::null());
         // The pointers are good for these lengths, and reply overlaps nothing.
         let step =
-            unsafe { mop_load_frame(PROVED, self.proved, image, size, from, length, to, room) };
+            unsafe { mop_load_frame(PROVED, record, image, size, none, 0, from, length, to, room) };
         black_box(step).answer.length
     }
 

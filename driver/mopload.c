@@ -6,30 +6,38 @@
 
 #include "files.h"
 #include "host.h"
+#include "parameters.h"
 #include "progress.h"
 #include "words.h"
 
 #define SEGMENT_REST (MOP_FRAME_MOST - MOP_SEGMENT_MOST) /* what code 0 has beside the data */
 
-enum { OPTION_ACCEPT = OPTION_JOB };
+enum { OPTION_ACCEPT = OPTION_JOB, OPTION_PARAMETERS };
 
 typedef struct loading {
     mop_load_settings settings;
     mop_load session;
     mop_image image;
     contents file;
+    parameters parameters; /* what it ends with, if settings says that it does */
     const char *path;
     uint32_t accept;                   /* the type served like 2; 2 for none other */
     uint8_t asked;                     /* the type of the last request to this host */
     bool unserved[MOP_PROGRAM_SYSTEM]; /* the types that were said not to be served */
     bool begun;
     uint64_t resets; /* requests after the machine's first answer */
-    bool early;      /* one came before the last segment was under way */
+    bool early;      /* one came before the last frame was under way */
     const host *host;
     progress progress;
 } loading;
 
 /* ---- The load as the host runs it ------------------------------------ */
+
+/* One for each segment, and one for the parameters. */
+static uint64_t frames_of(const loading *l)
+{
+    return l->image.segments + l->settings.with_parameters;
+}
 
 /* The same request for an operating system. */
 static void rewrite(line_frame *frame, const mop_fields *request)
@@ -52,20 +60,24 @@ static void tell_unserved(loading *l, const line_frame *frame, uint8_t type)
     fflush(stdout);
 }
 
-/* A machine that has answered and asks again was reset; at the last segment, it
+/* A machine that has answered and asks again was reset; at the last frame, it
  * may also be the program that asks. */
 static void tell_reset(loading *l, const line_frame *frame)
 {
     char from[ADDRESS_TEXT];
-    bool early = l->session.position + 1 < l->image.segments;
+    bool early = l->session.position + 1 < frames_of(l);
     bool said = early ? l->early : l->resets > 0;
     l->resets += 1;
     l->early |= early;
     if (said)
         return;
     words_bar_end();
-    printf("%s asks for a program again: it was reset %s.\n", address_text(frame->from, from),
-        early ? "in the middle of the load" : "before it answered the last segment, or was started and asks for more");
+    printf("%s asks for a program again: it was reset ", address_text(frame->from, from));
+    if (early)
+        puts("in the middle of the load.");
+    else
+        printf("before it answered the %s, or was started and asks for more.\n",
+            l->parameters.given ? "parameters" : "last segment");
     fflush(stdout);
 }
 
@@ -87,14 +99,20 @@ static void before(void *job, line_frame *frame)
         l->asked = request.program;
 }
 
+/* The first step is the one that begins the load: from then on the parameters
+ * stay the same. */
 static mop_written step(
     void *job, bool timer, const uint8_t *frame, size_t frame_length, uint8_t *reply, size_t reply_length)
 {
     loading *l = job;
+    const parameters *p = &l->parameters;
+    if (l->session.waiting)
+        parameters_now(&l->parameters);
     if (timer)
-        return mop_load_update_timer(l->settings, &l->session, l->file.bytes, l->file.length, reply, reply_length);
-    return mop_load_update_frame(
-        l->settings, &l->session, l->file.bytes, l->file.length, frame, frame_length, reply, reply_length);
+        return mop_load_update_timer(
+            l->settings, &l->session, l->file.bytes, l->file.length, p->bytes, p->length, reply, reply_length);
+    return mop_load_update_frame(l->settings, &l->session, l->file.bytes, l->file.length, p->bytes, p->length, frame,
+        frame_length, reply, reply_length);
 }
 
 static bool begins(const void *job, const line_frame *frame)
@@ -102,8 +120,8 @@ static bool begins(const void *job, const line_frame *frame)
     const loading *l = job;
     uint8_t reply[MOP_FRAME_MOST];
     mop_load trial = mop_load_start();
-    mop_load_update_frame(
-        l->settings, &trial, l->file.bytes, l->file.length, frame->bytes, frame->length, reply, sizeof reply);
+    mop_load_update_frame(l->settings, &trial, l->file.bytes, l->file.length, l->parameters.bytes, l->parameters.length,
+        frame->bytes, frame->length, reply, sizeof reply);
     return trial.waiting == 0;
 }
 
@@ -122,6 +140,11 @@ static void tell_begun(const loading *l)
     }
     printf("Loading %s: %" PRIu64 " segments of up to %" PRIu32 " bytes.\n", l->path, l->image.segments,
         l->settings.segment_size);
+    if (!l->parameters.given)
+        return;
+    fputs("Ends with parameters: ", stdout);
+    parameters_words(stdout, l->parameters.values, l->parameters.named);
+    puts(".");
 }
 
 static void show(void *job)
@@ -143,14 +166,17 @@ static const char manual[] = "NAME\n"
                              "\n"
                              "SYNOPSIS\n"
                              "  mopload -i INTERFACE [--machine ADDRESS] [-S N] [-R N] [--timer MS]\n"
-                             "          [--accept-type N] [--wait S] [--trace FILE] IMAGE\n"
+                             "          [--accept-type N] [--target-name TEXT] [--target-address ADDRESS]\n"
+                             "          [--host-name TEXT] [--host-address ADDRESS] [--time TIME]\n"
+                             "          [--parameters] [--wait S] [--trace FILE] IMAGE\n"
                              "\n"
                              "DESCRIPTION\n"
                              "  Waits for a machine to ask for a program, loads the image file IMAGE into\n"
                              "  it and starts it. A request to all hosts is answered with an offer of\n"
                              "  assistance (code 3); the machine then asks this host. The first machine\n"
                              "  that does so is served, and then the program ends. mopimage makes images.\n"
-                             "  The last lines tell what the machine's memory holds.\n"
+                             "  The last lines tell what the machine's memory holds, and what it keeps of\n"
+                             "  the parameters.\n"
                              "\n"
                              "  One host loads a machine at a time. A second mopload or mopdump on the\n"
                              "  interface is refused. If any other program on this computer sends MOP\n"
@@ -172,12 +198,14 @@ static const char manual[] = "NAME\n"
 static void help(void)
 {
     fputs(manual, stdout);
+    fputs(parameters_manual, stdout);
     common_help(stdout, "a machine's request");
     words_statuses(stdout, STATUS_FINISHED, STATUS_SHARED);
     words_statuses(stdout, STATUS_RESET, STATUS_IN_USE);
     fputs("\n"
-          "EXAMPLE\n"
-          "  mopload -i eth0 --accept-type 1 -R 1 program.img\n",
+          "EXAMPLES\n"
+          "  mopload -i eth0 --accept-type 1 -R 1 program.img\n"
+          "  mopload -i eth0 --target-name MILL --target-address 1.5 --time now program.img\n",
         stdout);
 }
 
@@ -189,6 +217,8 @@ static int option(int c, const char *value, host *h, loading *l)
     case OPTION_ACCEPT:
         return option_small("--accept-type", value, MOP_PROGRAM_SECONDARY, MOP_PROGRAM_SYSTEM, &l->accept);
     default:
+        if (c >= OPTION_PARAMETERS && c < OPTION_PARAMETERS + PARAMETERS_TYPES)
+            return parameters_option(&l->parameters, c - OPTION_PARAMETERS, value);
         return host_option(h, c, value, &l->settings.repeats);
     }
 }
@@ -196,7 +226,8 @@ static int option(int c, const char *value, host *h, loading *l)
 static int options(int count, char **words, host *h, loading *l)
 {
     static const struct option known[] = {HOST_OPTIONS, {"segment", required_argument, NULL, 'S'},
-        {"accept-type", required_argument, NULL, OPTION_ACCEPT}, {NULL, 0, NULL, 0}};
+        {"accept-type", required_argument, NULL, OPTION_ACCEPT}, PARAMETERS_OPTIONS(OPTION_PARAMETERS),
+        {NULL, 0, NULL, 0}};
     for (int c = 0; (c = getopt_long(count, words, "i:S:R:h", known, NULL)) != -1;) {
         int status = option(c, optarg, h, l);
         if (status != 0)
@@ -205,6 +236,7 @@ static int options(int count, char **words, host *h, loading *l)
     if (optind + 1 != count)
         return complain(STATUS_USAGE, "give one image file (see --help)");
     l->path = words[optind];
+    l->settings.with_parameters = l->parameters.given;
     return 0;
 }
 
@@ -219,14 +251,16 @@ static int read_image(loading *l)
     if (l->image.refusal != 0)
         return complain(STATUS_IMAGE, "%s is refused (%d): %s; mopimage --check tells more", l->path, l->image.refusal,
             refusal_words(l->image.refusal));
-    progress_start(&l->progress, "segments", l->image.segments);
+    progress_start(&l->progress, l->parameters.given ? "frames" : "segments", frames_of(l));
     return 0;
 }
 
+/* Every frame of the load fits the interface; and the library refuses none of
+ * the parameters, which it would otherwise do at every step. */
 static int check_room(const host *h, const loading *l)
 {
     if (l->settings.segment_size + SEGMENT_REST <= h->line.longest)
-        return 0;
+        return parameters_try(&l->parameters, h->line.longest, h->line.name);
     return complain(STATUS_INTERFACE, "%s takes messages of at most %" PRIu32 " bytes: -S is at most %" PRIu32,
         h->line.name, h->line.longest, h->line.longest - SEGMENT_REST);
 }
@@ -238,7 +272,7 @@ static int conclude(const loading *l, int status)
     if (status == STATUS_SHARED)
         load_shared_words(stdout);
     else
-        load_words(stdout, &l->session, &l->image);
+        load_words(stdout, &l->session, &l->image, l->parameters.given);
     if (l->resets > 0)
         load_reset_words(stdout, l->resets, l->session.verdict == MOP_LOAD_UNCONFIRMED && !l->early);
     printf("%" PRIu64 " frames were sent by the session.\n", l->session.sent);

@@ -8,6 +8,7 @@
 #include "files.h"
 #include "line.h"
 #include "options.h"
+#include "parameters.h"
 #include "words.h"
 
 #define DUMP_REST (MOP_FRAME_MOST - MOP_DUMP_DATA_MOST) /* what code 14 has beside the data */
@@ -31,6 +32,7 @@ typedef struct machine_end {
     const char *fill;
     output save; /* no path for none */
     bool offer;
+    bool given;                   /* it was started by parameters */
     uint8_t host[ADDRESS_LENGTH]; /* whom it asks, ASSISTANCE for all */
     unsigned asked;               /* how often without an answer */
     line line;
@@ -107,6 +109,8 @@ static int take(machine_end *m, const line_frame *frame)
     m->limit = clock_now() + (int64_t)m->common.wait * 1000;
     mop_machine_step step = mop_machine_frame(
         m->settings, m->machine, frame->bytes, frame->length, m->memory.bytes, m->memory.length, reply, sizeof reply);
+    if (step.answer.length > 0 && step.machine.state == MOP_MACHINE_STARTED)
+        m->given = mop_read(frame->bytes, frame->length).code == MOP_CODE_PARAMETERS;
     return carry(m, step, reply);
 }
 
@@ -161,6 +165,9 @@ static const char manual[] = "NAME\n"
                              "  The machine end as a process, to rehearse a shift without the machine. It\n"
                              "  asks all hosts for a program (or, with --offer, offers a dump), then the\n"
                              "  host that answers, and ends when it is started (or the dump is complete).\n"
+                             "  If the load ended with parameters it prints those that it was given: names\n"
+                             "  in quotes, with \\xNN for what is not printable ASCII, addresses as\n"
+                             "  hexadecimal pairs, and the time in the form that mopload takes.\n"
                              "\n"
                              "OPTIONS\n"
                              "  --memory N\n"
@@ -263,12 +270,22 @@ static int fill(machine_end *m)
     return status;
 }
 
-static int conclude(machine_end *m, int status)
+static void tell_state(const machine_end *m)
 {
     if (m->machine.state == MOP_MACHINE_STARTED)
         printf("Started at 0x%08" PRIX32 ".\n", m->machine.transfer);
     else
         printf("The machine is %s.\n", state_words(m->machine.state));
+    if (!m->given)
+        return;
+    fputs("Given by the host: ", stdout);
+    parameters_words(stdout, m->machine.parameters, NULL);
+    puts(".");
+}
+
+static int conclude(machine_end *m, int status)
+{
+    tell_state(m);
     int saved = m->save.path == NULL ? 0 : output_write(&m->save, m->memory.bytes, m->memory.length);
     return status == 0 ? saved : status;
 }

@@ -48,7 +48,7 @@ void words_statuses(FILE *out, int first, int last)
         {STATUS_OTHER, "out of memory, or a refusal that should not be"},
         {STATUS_REJECTED, "rejected: the machine answered with an error"},
         {STATUS_GIVEN_UP, "given up: the machine stopped answering"},
-        {STATUS_UNCONFIRMED, "unconfirmed: all but the last segment is confirmed"},
+        {STATUS_UNCONFIRMED, "unconfirmed: all but the last frame of the load is confirmed"},
         {STATUS_SILENT, "silent: nothing was heard in the time of --wait"},
         {STATUS_INTERRUPTED, "interrupted by a signal"},
         {STATUS_SHARED, "another program on this computer sent MOP frames from the same address"},
@@ -177,52 +177,98 @@ void dump_offers_words(FILE *out, uint64_t offers)
         offers, offers == 1 ? "" : "s");
 }
 
-/* A session that ended before its verdict, by a signal say. */
-static void load_open_words(FILE *out, const mop_load *session, const mop_image *image)
-{
-    if (session->waiting)
-        fputs("Not begun: no segment was sent, and the machine's memory is as it was.\n", out);
-    else
-        fprintf(out,
-            "Broken off: %" PRIu64 " of %" PRIu64 " segments are confirmed. The machine's memory holds those and "
-            "perhaps the next one; if that was the last it was started.\n",
-            session->position, image->segments);
-}
+/* ---- Loads ----------------------------------------------------------- */
 
-void load_words(FILE *out, const mop_load *session, const mop_image *image)
+/* A session that ended before its verdict, by a signal say. */
+static void load_open_words(FILE *out, const mop_load *session, const mop_image *image, bool parameters)
 {
     const uint64_t c = session->position, n = image->segments;
-    switch (session->verdict) {
-    case MOP_LOAD_FINISHED:
-        fprintf(out,
-            "Finished: the machine confirmed all %" PRIu64 " segments. Its memory holds the whole image, and it was "
-            "started at 0x%08" PRIX32 ".\n",
-            n, image->transfer);
-        break;
-    case MOP_LOAD_REJECTED:
+    if (session->waiting) {
+        fputs("Not begun: no segment was sent, and the machine's memory is as it was.\n", out);
+        return;
+    }
+    fprintf(out, "Broken off: %" PRIu64 " of %" PRIu64 " segments are confirmed. ", c < n ? c : n, n);
+    if (!parameters)
+        fputs("The machine's memory holds those and perhaps the next one; if that was the last it was started.\n", out);
+    else if (c < n)
+        fputs("The machine's memory holds those and perhaps the next one, and it was not started: the parameters, "
+              "which start it, were not sent.\n",
+            out);
+    else
+        fputs("The machine's memory holds the whole image; if the parameters arrived it keeps them and was started.\n",
+            out);
+}
+
+static void load_finished_words(FILE *out, const mop_image *image, bool parameters)
+{
+    fprintf(out, "Finished: the machine confirmed all %" PRIu64 " segments%s. Its memory holds the whole image, ",
+        image->segments, parameters ? " and the parameters" : "");
+    if (parameters)
+        fputs("it keeps the names, addresses and time that it was sent and no others, ", out);
+    fprintf(out, "and it was started at 0x%08" PRIX32 ".\n", image->transfer);
+}
+
+/* At position n it was the parameters that it answered. */
+static void load_rejected_words(FILE *out, uint64_t c, uint64_t n)
+{
+    if (c < n)
         fprintf(out,
             "Rejected: the machine answered segment %" PRIu64 " of %" PRIu64 " with an error. Its memory holds the "
             "%" PRIu64 " segments before, and it was not started. (A boot ROM that calls a repeated segment an error "
             "has taken that segment too: docs/FIELD-NOTES.md.)\n",
             c + 1, n, c);
-        break;
-    case MOP_LOAD_GIVEN_UP:
+    else
         fprintf(out,
-            "Given up: the machine confirmed %" PRIu64 " of %" PRIu64 " segments and then fell silent. Its memory "
-            "holds those and perhaps the next one, and it was not started.\n",
-            c, n);
-        break;
-    case MOP_LOAD_UNCONFIRMED:
+            "Rejected: the machine answered the parameters with an error. Its memory holds the whole image, all "
+            "%" PRIu64 " segments, and it was not started.\n",
+            n);
+}
+
+static void load_given_up_words(FILE *out, uint64_t c, uint64_t n, bool parameters)
+{
+    fprintf(out,
+        "Given up: the machine confirmed %" PRIu64 " of %" PRIu64 " segments and then fell silent. Its memory holds "
+        "those and perhaps the %s one, and it was not started%s.\n",
+        c, n, c + 1 == n ? "last" : "next", parameters ? ": the parameters, which start it, were not sent" : "");
+}
+
+static void load_unconfirmed_words(FILE *out, uint64_t c, const mop_image *image, bool parameters)
+{
+    if (parameters)
+        fprintf(out,
+            "Unconfirmed: all %" PRIu64 " segments are confirmed, the parameters are not. The machine's memory holds "
+            "the whole image. If the parameters arrived it keeps them and was started at 0x%08" PRIX32 "; if not, it "
+            "was not started. A boot ROM may start the program without an answer: look at the machine.\n",
+            image->segments, image->transfer);
+    else
         fprintf(out,
             "Unconfirmed: %" PRIu64 " of %" PRIu64 " segments are confirmed, all but the last. If the last arrived "
             "the machine's memory holds the whole image and it was started at 0x%08" PRIX32 "; if not, it holds the "
             "others and was not started. Many boot ROMs never answer the last segment: look at the machine.\n",
-            c, n, image->transfer);
+            c, image->segments, image->transfer);
+}
+
+void load_words(FILE *out, const mop_load *session, const mop_image *image, bool parameters)
+{
+    switch (session->verdict) {
+    case MOP_LOAD_FINISHED:
+        load_finished_words(out, image, parameters);
+        break;
+    case MOP_LOAD_REJECTED:
+        load_rejected_words(out, session->position, image->segments);
+        break;
+    case MOP_LOAD_GIVEN_UP:
+        load_given_up_words(out, session->position, image->segments, parameters);
+        break;
+    case MOP_LOAD_UNCONFIRMED:
+        load_unconfirmed_words(out, session->position, image, parameters);
         break;
     default:
-        load_open_words(out, session, image);
+        load_open_words(out, session, image, parameters);
     }
 }
+
+/* ---- Dumps ----------------------------------------------------------- */
 
 void dump_words(FILE *out, const mop_dump *session, const mop_dump_settings *settings)
 {

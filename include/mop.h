@@ -34,9 +34,10 @@
  *             size_t length = line_wait(frame, sizeof frame);
  *             mop_written answer = length > 0
  *                 ? mop_load_update_frame(settings, &session, file,
- *                       file_length, frame, length, reply, sizeof reply)
+ *                       file_length, NULL, 0, frame, length, reply,
+ *                       sizeof reply)
  *                 : mop_load_update_timer(settings, &session, file,
- *                       file_length, reply, sizeof reply);
+ *                       file_length, NULL, 0, reply, sizeof reply);
  *             if (mop_refused_frame(answer.refusal))
  *                 continue;
  *             if (answer.refusal != MOP_ACCEPTED)
@@ -102,15 +103,15 @@
  * refusals apply, the first in the order given at the call is answered.
  *
  * Order. In every step, of these the ones that it needs: settings, record,
- * lent bytes that stay the same over a session (image file, loop data), frame,
- * memory or dump buffer, reply buffer.
+ * lent bytes that stay the same over a session (image file, parameter string,
+ * loop data), frame, memory or dump buffer, reply buffer.
  *
  * Records. A step takes a session's record by value and answers the next one,
  * or it updates the record where it stands (mop_.._update_..). Hand it to the
- * next step, and change nothing in it; the same settings, file, memory, data
- * and buffer go into each step of a session. Once a verdict is not 0, no frame
- * and no timer changes anything or sends anything; a frame that can't be read
- * is refused even then.
+ * next step, and change nothing in it; the same settings, file, parameters,
+ * memory, data and buffer go into each step of a session. Once a verdict is not
+ * 0, no frame and no timer changes anything or sends anything; a frame that
+ * can't be read is refused even then.
  *
  * Timers. How long one runs is the caller's. Start it when a step gives a frame
  * to send, and at no other time: a frame that is refused or ignored leaves it
@@ -142,7 +143,8 @@ extern "C" {
 /* ---- Numbers --------------------------------------------------------- */
 
 /* The refusals. 1 to 4 are the frame's, 5 to 8 the image file's, 9 and 10
- * the caller's. A writer gives 2 and 4 for what it was asked to write. */
+ * the caller's. A writer gives 2 and 4 for what it was asked to write, and a
+ * load's step for its parameter string. */
 enum mop_refusal {
     MOP_ACCEPTED = 0,          /* no refusal */
     MOP_REFUSED_SHORT = 1,     /* the frame is empty or ends too early */
@@ -165,7 +167,9 @@ enum mop_refusal {
 
 /* Whether a step's refusal is the frame's own (1 to 4): 1 or 0. Such a frame
  * comes from the line and not from the caller: drop it, and wait on. With any
- * other refusal the call itself is wrong, and it would be refused again. */
+ * other refusal the call itself is wrong, and it would be refused again. A load
+ * with a parameter string gives 4 and 2 for the string too, in every call: try
+ * the string beforehand ('The host's load'). */
 static inline int mop_refused_frame(uint8_t refusal)
 {
     return refusal >= MOP_REFUSED_SHORT && refusal <= MOP_REFUSED_FIELD;
@@ -180,6 +184,9 @@ enum mop_limit {
                                    has 5 more */
     MOP_LOOP_DATA_MOST = 1497,  /* bytes of a loop test's data; code 24 has 3
                                    more */
+    MOP_PARAMETERS_MOST = 1493, /* bytes of a parameter string; code 20 has 7
+                                   more */
+    MOP_VALUE_MOST = 16,        /* bytes of one value in it */
     MOP_REPEATS_MOST = 255,     /* repeats of a frame */
     MOP_FILE_MOST = 16777216,   /* bytes of an image file; the least is 16 */
     MOP_MEMORY_MOST = 16777216, /* bytes of a machine's memory */
@@ -193,7 +200,8 @@ enum mop_ethernet_limit {
     MOP_ETHERNET_FRAME_MOST = 1498,
     MOP_ETHERNET_SEGMENT_MOST = 1488,
     MOP_ETHERNET_DUMP_DATA_MOST = 1493,
-    MOP_ETHERNET_LOOP_DATA_MOST = 1495
+    MOP_ETHERNET_LOOP_DATA_MOST = 1495,
+    MOP_ETHERNET_PARAMETERS_MOST = 1491
 };
 
 /* The codes, a frame's first byte. Each but the last has the writer of its
@@ -251,19 +259,21 @@ enum mop_machine_state {
     MOP_MACHINE_STARTED = 4 /* runs what was loaded; ignores every frame */
 };
 
-/* The verdicts of a load of N segments. 'In' is: in the machine's memory. */
+/* The verdicts of a load of n frames: one for each of its N segments, and one
+ * more if it ends with parameters. 'In' is: taken by the machine, a segment's
+ * bytes into its memory, the parameters into its record. */
 enum mop_load_verdict {
-    MOP_LOAD_RUNNING = 0,    /* not over: the first c or c + 1 segments are in,
+    MOP_LOAD_RUNNING = 0,    /* not over: the first c or c + 1 frames are in,
                                 c being the record's position; none while it
                                 waits */
-    MOP_LOAD_FINISHED = 1,   /* all N are in, and the machine is started */
+    MOP_LOAD_FINISHED = 1,   /* all n are in, and the machine is started */
     MOP_LOAD_REJECTED = 2,   /* the machine gave an error: the first c are in,
                                 and it is not started */
-    MOP_LOAD_GIVEN_UP = 3,   /* no answer to a segment that is not the last:
-                                the first c or c + 1 are in, not started */
-    MOP_LOAD_UNCONFIRMED = 4 /* no answer to the last segment: all N are in
-                                and the machine is started, or the first N - 1
-                                are and it is not */
+    MOP_LOAD_GIVEN_UP = 3,   /* no answer to a frame that is not the last: the
+                                first c or c + 1 are in, not started */
+    MOP_LOAD_UNCONFIRMED = 4 /* no answer to the last frame: all n are in and
+                                the machine is started, or the first n - 1 are
+                                and it is not */
 };
 
 /* The verdicts of a dump. */
@@ -456,7 +466,7 @@ mop_written mop_write_looped(uint16_t receipt, const uint8_t *data,
  * segment_size bytes, its last perhaps shorter. N is how many there are. They
  * are counted from 0, and the number of segment i in its frame is i modulo
  * 256. The last goes out as code 0, with the transfer address, the others as
- * code 2.
+ * code 2. In a load that ends with parameters all of them go out as code 2.
  */
 
 /* An accepted image. */
@@ -504,18 +514,36 @@ typedef struct mop_machine_settings {
     uint8_t processor;    /* processor type in its own frames */
 } mop_machine_settings;
 
+/* A name, an address or a time that the machine keeps: as many bytes as length
+ * says; those behind them are 0. */
+typedef struct mop_value {
+    uint8_t length;                /* 0 for none */
+    uint8_t bytes[MOP_VALUE_MOST]; /* its bytes, then zeros */
+} mop_value;
+
+/* What the machine keeps of the code 20 that started it: of each entry type the
+ * last value, and length 0 for a type that was absent. All 0 before. */
+typedef struct mop_parameters {
+    mop_value target_name;    /* at most 16 bytes */
+    mop_value target_address; /* at most 6 bytes */
+    mop_value host_name;      /* at most 16 bytes */
+    mop_value host_address;   /* at most 6 bytes */
+    mop_value host_time;      /* 0 or 10 bytes */
+} mop_parameters;
+
 /* The machine's record. A number that the state does not use is not looked at;
- * on entering a state such numbers become 0. Two calls below start a machine
- * that wants a load or a dump. One that wants neither is Idle, all 0, and needs
- * no call:
+ * on entering a state such numbers become 0. The parameters stay whatever the
+ * state, until a code 20 is taken. Two calls below start a machine that wants a
+ * load or a dump. One that wants neither is Idle, all 0, and needs no call:
  *
  *     mop_machine machine = {.state = MOP_MACHINE_IDLE};
  */
 typedef struct mop_machine {
-    uint32_t transfer; /* Started: the transfer address */
-    uint8_t state;     /* MOP_MACHINE_.. */
-    uint8_t expected;  /* Loading: the number of the load that comes next */
-    uint8_t error;     /* Loading: the error of the last reply */
+    uint32_t transfer;         /* Started: the transfer address */
+    uint8_t state;             /* MOP_MACHINE_.. */
+    uint8_t expected;          /* Loading: the number of the next load */
+    uint8_t error;             /* Loading: the error of the last reply */
+    mop_parameters parameters; /* what a code 20 gave it */
 } mop_machine;
 
 /* What a step of the machine answers. */
@@ -550,14 +578,16 @@ mop_machine_step mop_machine_start_dump(mop_machine_settings settings,
     size_t reply_length);
 
 /* A frame has come.
- *   Codes 0 and 2, a load, in Idle, Requesting and Loading: taken with number
- *   0, always and anew, and in Loading with the expected number. It fits if its
- *   address + its data's length is at most the memory's length. If it fits, the
- *   data goes into memory, and code 10 answers with the number after it (after
- *   255 comes 0) and error 0; if not, memory stays, and the error is 1. Then
- *   the state is Loading or, after a code 0 that fits, Started. To the number
- *   before the expected one, unless that is 0, Loading gives its last reply
- *   again, its error included.
+ *   Codes 0 and 2, a load, and 20, parameters, in Idle, Requesting and Loading:
+ *   taken with number 0, always and anew, and in Loading with the expected
+ *   number. A load fits if its address + its data's length is at most the
+ *   memory's length. If it fits, the data goes into memory, and code 10 answers
+ *   with the number after it (after 255 comes 0) and error 0; if not, memory
+ *   stays, and the error is 1. Then the state is Loading or, after a code 0 that
+ *   fits, Started. A code 20 that is taken is answered with error 0: memory
+ *   stays, the record keeps the entries' values, and the state is Started. To
+ *   the number before the expected one, unless that is 0, Loading gives its last
+ *   reply again, its error included.
  *   Code 4, in Idle and Offering: answered with code 14, the address asked for
  *   and the lesser of count and D bytes from there on, 0 beyond memory's end.
  *   Code 1, in Offering: the state becomes Idle.
@@ -576,16 +606,29 @@ mop_machine_step mop_machine_timer(mop_machine_settings settings,
 
 /* ---- The host's load ------------------------------------------------- */
 
+/* The load's frames. Without parameters there are n = N, one for each segment:
+ * code 2, and code 0 for the last. With a parameter string, perhaps an empty
+ * one, there are n = N + 1: every segment goes out as code 2, and a code 20
+ * follows, numbered N modulo 256, with the string as its entries and the
+ * image's transfer address. The machine keeps their values and starts.
+ *
+ * The string is entries without the end mark, as mop_write_parameters takes
+ * them, and has at most 1,493 bytes. It is judged in every call. To try one
+ * before the first call, write it: with a buffer of 1,500 bytes
+ * mop_write_parameters refuses what a load's step refuses of the string, and
+ * nothing else. */
+
 /* A load's settings. */
 typedef struct mop_load_settings {
-    uint32_t segment_size; /* S, the bytes of a segment, 1 to 1,490 */
-    uint32_t repeats;      /* R, the repeats allowed per frame, 0 to 255 */
+    uint32_t segment_size;   /* S, the bytes of a segment, 1 to 1,490 */
+    uint32_t repeats;        /* R, the repeats allowed per frame, 0 to 255 */
+    uint8_t with_parameters; /* 1 if the load ends with parameters, else 0 */
 } mop_load_settings;
 
 /* A load's record. */
 typedef struct mop_load {
-    uint64_t position; /* c, the segments that the machine has answered */
-    uint64_t sent;     /* the frames sent, at most N x (R + 1) */
+    uint64_t position; /* c, the frames that the machine has answered */
+    uint64_t sent;     /* the frames sent, at most n x (R + 1) */
     uint32_t repeats;  /* the repeats of the frame on its way, at most R */
     uint8_t waiting;   /* 1 until a machine asks for a program, then 0 */
     uint8_t verdict;   /* MOP_LOAD_.. */
@@ -602,8 +645,10 @@ typedef struct mop_load_step {
 mop_load mop_load_start(void);
 
 /* In each of the four calls below:
- *   In     the image file, which is not changed and stays the same over a
- *          load; a reply buffer of at least 1,500 bytes.
+ *   In     the image file and the parameter string, which are not changed and
+ *          stay the same over a load (with_parameters 0: the string is not
+ *          looked at; NULL and 0 will do); a reply buffer of at least 1,500
+ *          bytes.
  *   Out    the next record, and the length of the frame to send, 0 for none;
  *          that frame at the start of reply, the bytes behind it as they were.
  *   Refuses, in this order:
@@ -612,37 +657,41 @@ mop_load mop_load_start(void);
  *             and has another number that is not 0;
  *          9 for the reply buffer;
  *          5, 6, 7 and 8 as mop_image_check does;
- *          10 for a position above N, for sent above N x (R + 1), and for the
- *             verdict 1 at a position other than N, or another one at N;
+ *          10 for a position above n, for sent above n x (R + 1), and for the
+ *             verdict 1 at a position other than n, or another one at n;
+ *          4 for a string that is not whole entries of the list, then 2 for
+ *             one above 1,493 bytes;
  *          1 to 4 for the frame as mop_read does.
  *          Then the record is answered as it came, and reply stays as it was.
  */
 
 /* A frame has come. Code 8 for an operating system (program type 2) ends the
- * waiting, and the first segment goes out. Code 10 with the number (c + 1)
- * modulo 256 answers the segment on its way: with error 0 the next one goes
+ * waiting, and the first frame goes out. Code 10 with the number (c + 1)
+ * modulo 256 answers the frame on its way: with error 0 the next one goes
  * out, or, after the last, the load is finished; with another error it is
  * rejected. All else is ignored. */
 mop_load_step mop_load_frame(mop_load_settings settings, mop_load session,
-    const uint8_t *file, size_t file_length, const uint8_t *frame,
-    size_t frame_length, uint8_t *reply, size_t reply_length);
+    const uint8_t *file, size_t file_length, const uint8_t *parameters,
+    size_t parameters_length, const uint8_t *frame, size_t frame_length,
+    uint8_t *reply, size_t reply_length);
 
 /* The timer has run out. The frame on its way goes out again if fewer than R
- * repeats are used, else the load is given up or, at its last segment,
+ * repeats are used, else the load is given up or, at its last frame,
  * unconfirmed. While it waits, nothing happens. */
 mop_load_step mop_load_timer(mop_load_settings settings, mop_load session,
-    const uint8_t *file, size_t file_length, uint8_t *reply,
-    size_t reply_length);
+    const uint8_t *file, size_t file_length, const uint8_t *parameters,
+    size_t parameters_length, uint8_t *reply, size_t reply_length);
 
 /* The same two steps, and the record is updated where it stands. session points
  * to a record that overlaps nothing else that is lent. If refused, it stays as
  * it was. */
 mop_written mop_load_update_frame(mop_load_settings settings, mop_load *session,
-    const uint8_t *file, size_t file_length, const uint8_t *frame,
-    size_t frame_length, uint8_t *reply, size_t reply_length);
+    const uint8_t *file, size_t file_length, const uint8_t *parameters,
+    size_t parameters_length, const uint8_t *frame, size_t frame_length,
+    uint8_t *reply, size_t reply_length);
 mop_written mop_load_update_timer(mop_load_settings settings, mop_load *session,
-    const uint8_t *file, size_t file_length, uint8_t *reply,
-    size_t reply_length);
+    const uint8_t *file, size_t file_length, const uint8_t *parameters,
+    size_t parameters_length, uint8_t *reply, size_t reply_length);
 
 /* ---- The host's dump ------------------------------------------------- */
 

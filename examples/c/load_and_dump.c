@@ -1,6 +1,7 @@
-/* Loads a program into a machine, then dumps the machine's memory and compares,
- * over a line that loses every third frame. Both ends run here. A driver's
- * author replaces line_send and line_wait, and keeps one of the two ends. */
+/* Loads a program into a machine and tells it its name, then dumps the
+ * machine's memory and compares, over a line that loses every third frame. Both
+ * ends run here. A driver's author replaces line_send and line_wait, and keeps
+ * one of the two ends. */
 #include <stdio.h>
 #include <stdlib.h>
 #include <string.h>
@@ -25,7 +26,9 @@ static void print_frame(mop_fields f)
         printf("asks for a program");
     if (f.code == MOP_CODE_LOAD || f.code == MOP_CODE_LOAD_TRANSFER)
         printf("load %d: %u bytes for %04X", f.number, bytes, address);
-    if (f.code == MOP_CODE_LOAD_TRANSFER)
+    if (f.code == MOP_CODE_PARAMETERS)
+        printf("load %d: %u bytes of parameters", f.number, bytes);
+    if (f.code == MOP_CODE_LOAD_TRANSFER || f.code == MOP_CODE_PARAMETERS)
         printf(", then start at %04X", (unsigned)f.transfer);
     if (f.code == MOP_CODE_REQUEST_LOAD)
         printf("asks for load %d, error %d", f.number, f.error);
@@ -95,16 +98,23 @@ static void machine_step(void)
 
 /* ---- The host. */
 
+/* What the load ends with: type, length and value of each entry. A load without
+ * parameters ends with its last segment. */
+static const uint8_t parameters[] = {
+    MOP_ENTRY_TARGET_NAME, 4, 'M', 'I', 'L', 'L'};
+
 static void load_step(mop_load *session, const uint8_t *file, size_t size)
 {
-    const mop_load_settings settings = {.segment_size = 64, .repeats = 3};
+    const mop_load_settings settings = {
+        .segment_size = 64, .repeats = 3, .with_parameters = 1};
     uint8_t frame[MOP_FRAME_MOST];
     const size_t length = line_wait(&to_host, frame);
-    line_send(&to_machine, length > 0
-                               ? mop_load_update_frame(settings, session, file,
-                                     size, frame, length, reply, sizeof reply)
-                               : mop_load_update_timer(settings, session, file,
-                                     size, reply, sizeof reply));
+    line_send(&to_machine,
+        length > 0
+            ? mop_load_update_frame(settings, session, file, size, parameters,
+                  sizeof parameters, frame, length, reply, sizeof reply)
+            : mop_load_update_timer(settings, session, file, size, parameters,
+                  sizeof parameters, reply, sizeof reply));
 }
 
 static void dump_step(mop_dump *session, uint8_t *buffer, size_t size)
@@ -142,6 +152,11 @@ int main(void)
     mop_load load = mop_load_start();
     mop_dump dump = mop_dump_start();
 
+    /* A bad string would be refused in every step, like a frame. */
+    if (mop_write_parameters(
+            0, parameters, sizeof parameters, 0, reply, sizeof reply)
+            .refusal != MOP_ACCEPTED)
+        return 1;
     make_image(file);
     machine_does(mop_machine_start_load(
         ours, memory, sizeof memory, reply, sizeof reply));
@@ -149,8 +164,9 @@ int main(void)
         load_step(&load, file, sizeof file);
         machine_step();
     }
-    printf(
-        "load: verdict %d, %d frames sent\n\n", load.verdict, (int)load.sent);
+    const mop_value name = machine.parameters.target_name;
+    printf("load: verdict %d, %d frames sent, the machine's name is %.*s\n\n",
+        load.verdict, (int)load.sent, name.length, (const char *)name.bytes);
 
     machine_does(mop_machine_start_dump(
         ours, memory, sizeof memory, reply, sizeof reply));

@@ -42,10 +42,11 @@ static const listed list[CALLS] = {
     [MACHINE_TIMER] = {"mop_machine_timer", R(10) | R(9)},
     [LOAD_START] = {"mop_load_start", 0},
     [LOAD_FRAME] = {"mop_load_frame", R(10) | R(9) | IMAGE | FRAME},
-    [LOAD_TIMER] = {"mop_load_timer", R(10) | R(9) | IMAGE},
+    [LOAD_TIMER] = {"mop_load_timer", R(10) | R(9) | IMAGE | R(4) | R(2)},
     [LOAD_UPDATE_FRAME] = {"mop_load_update_frame",
         R(10) | R(9) | IMAGE | FRAME},
-    [LOAD_UPDATE_TIMER] = {"mop_load_update_timer", R(10) | R(9) | IMAGE},
+    [LOAD_UPDATE_TIMER] = {"mop_load_update_timer",
+        R(10) | R(9) | IMAGE | R(4) | R(2)},
     [DUMP_START] = {"mop_dump_start", 0},
     [DUMP_FRAME] = {"mop_dump_frame", R(10) | R(9) | FRAME},
     [DUMP_TIMER] = {"mop_dump_timer", R(10) | R(9)},
@@ -165,10 +166,10 @@ bool once_in(unsigned times)
 uint64_t hostile(void)
 {
     static const uint64_t edges[] = {0, 1, 2, 3, 4, 5, 127, 128, 255, 256, 1490,
-        1491, 1495, 1496, 1497, 1498, 1500, 1501, 32768, 65535, 65536, 16777216,
-        16777217, UINT32_MAX / 2, UINT32_MAX / 2 + 1, UINT32_MAX - 1,
-        UINT32_MAX, UINT64_C(1) << 32, UINT64_MAX / 2, UINT64_MAX / 2 + 1,
-        UINT64_MAX - 1, UINT64_MAX};
+        1491, 1493, 1494, 1495, 1496, 1497, 1498, 1500, 1501, 32768, 65535,
+        65536, 16777216, 16777217, UINT32_MAX / 2, UINT32_MAX / 2 + 1,
+        UINT32_MAX - 1, UINT32_MAX, UINT64_C(1) << 32, UINT64_MAX / 2,
+        UINT64_MAX / 2 + 1, UINT64_MAX - 1, UINT64_MAX};
     const uint64_t edge = edges[below(sizeof edges / sizeof edges[0])];
     return once_in(4) ? random_any() : edge;
 }

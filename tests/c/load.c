@@ -1,32 +1,27 @@
-/* The host's load: any settings, records, files and frames. */
+/* The host's load: any settings, records, files, parameters and frames. */
+#include <string.h>
+
 #include "check.h"
 #include "lent.h"
+#include "load.h"
 #include "make.h"
 #include "tests.h"
 
-static lent record, file, frame, reply;
+static lent record, file, parameters, frame, reply;
 
-/* A call: what goes in, but for the buffers. */
-typedef struct input {
-    enum call call;
-    mop_load_settings settings;
-    mop_load session;
-    uint8_t file[IMAGE_MOST];
-    size_t file_length;
-    uint8_t frame[BEYOND];
-    size_t frame_length;
-    size_t room;
-} input;
-
-static bool is_timer(const input *in)
+static bool is_timer(const load_input *in)
 {
     return in->call == LOAD_TIMER || in->call == LOAD_UPDATE_TIMER;
 }
 
-/* Whether the record is bad, as far as needs no image. */
-static bool is_bad(const input *in)
+/* Whether a setting is bad, or the record, as far as needs no image. */
+static bool is_bad(const load_input *in)
 {
+    const mop_load_settings *s = &in->settings;
     const mop_load *h = &in->session;
+    if (s->segment_size < 1 || s->segment_size > MOP_SEGMENT_MOST ||
+        s->repeats > MOP_REPEATS_MOST || s->with_parameters > 1)
+        return true;
     if (h->verdict > MOP_LOAD_UNCONFIRMED || h->waiting > 1)
         return true;
     if (h->repeats > in->settings.repeats)
@@ -35,58 +30,76 @@ static bool is_bad(const input *in)
                                   h->repeats != 0 || h->verdict != 0);
 }
 
-/* The header's refusal, in its order. */
-static unsigned wanted(const input *in)
+mop_image load_image(const load_input *in)
 {
-    const uint32_t size = in->settings.segment_size, r = in->settings.repeats;
+    return mop_image_check(
+        in->file, in->file_length, in->settings.segment_size);
+}
+
+/* The refusal of the string, if the load ends with it. */
+static unsigned string_refusal(const load_input *in)
+{
+    if (in->settings.with_parameters == 0)
+        return MOP_ACCEPTED;
+    if (!good_entries(in->parameters, in->parameters_length))
+        return MOP_REFUSED_FIELD;
+    return in->parameters_length > MOP_PARAMETERS_MOST ? MOP_REFUSED_LONG
+                                                       : MOP_ACCEPTED;
+}
+
+unsigned load_refusal(const load_input *in)
+{
     const mop_load *h = &in->session;
-    if (size < 1 || size > MOP_SEGMENT_MOST || r > MOP_REPEATS_MOST)
-        return MOP_REFUSED_RANGE;
     if (is_bad(in))
         return MOP_REFUSED_RANGE;
     if (in->room < MOP_FRAME_MOST)
         return MOP_REFUSED_ROOM;
-    const mop_image image = mop_image_check(in->file, in->file_length, size);
-    const uint64_t n = image.segments;
+    const mop_image image = load_image(in);
+    const uint64_t n = image.segments + in->settings.with_parameters;
     if (image.refusal != MOP_ACCEPTED)
         return image.refusal;
-    if (h->position > n || h->sent > n * (r + 1))
+    if (h->position > n || h->sent > n * (in->settings.repeats + 1))
         return MOP_REFUSED_RANGE;
     if ((h->verdict == MOP_LOAD_FINISHED) != (h->position == n))
         return MOP_REFUSED_RANGE;
+    if (string_refusal(in) != MOP_ACCEPTED)
+        return string_refusal(in);
     return is_timer(in) ? MOP_ACCEPTED
                         : mop_read(in->frame, in->frame_length).refusal;
 }
 
 /* The record stands between guards too. */
-static mop_load_step update(const input *in)
+static mop_load_step update(const load_input *in)
 {
     mop_load_step step;
     mop_load *session = (mop_load *)(void *)lent_bytes(&record);
     step.answer =
         is_timer(in)
             ? mop_load_update_timer(in->settings, session, lent_in(&file),
-                  in->file_length, lent_out(&reply), in->room)
+                  in->file_length, lent_in(&parameters), in->parameters_length,
+                  lent_out(&reply), in->room)
             : mop_load_update_frame(in->settings, session, lent_in(&file),
-                  in->file_length, lent_in(&frame), in->frame_length,
-                  lent_out(&reply), in->room);
+                  in->file_length, lent_in(&parameters), in->parameters_length,
+                  lent_in(&frame), in->frame_length, lent_out(&reply),
+                  in->room);
     step.session = *session;
     demand(lent_same_from(&record, sizeof step.session),
         "a red zone of the record");
     return step;
 }
 
-static mop_load_step make_call(const input *in)
+static mop_load_step make_call(const load_input *in)
 {
     calling(in->call);
     if (in->call == LOAD_UPDATE_FRAME || in->call == LOAD_UPDATE_TIMER)
         return update(in);
     if (in->call == LOAD_TIMER)
         return mop_load_timer(in->settings, in->session, lent_in(&file),
-            in->file_length, lent_out(&reply), in->room);
+            in->file_length, lent_in(&parameters), in->parameters_length,
+            lent_out(&reply), in->room);
     return mop_load_frame(in->settings, in->session, lent_in(&file),
-        in->file_length, lent_in(&frame), in->frame_length, lent_out(&reply),
-        in->room);
+        in->file_length, lent_in(&parameters), in->parameters_length,
+        lent_in(&frame), in->frame_length, lent_out(&reply), in->room);
 }
 
 static bool same(mop_load a, mop_load b)
@@ -96,7 +109,30 @@ static bool same(mop_load a, mop_load b)
            a.verdict == b.verdict;
 }
 
-static void check_answer(const input *in, unsigned refusal, mop_load_step step)
+/* The frame that stands in reply is the load's at this position. */
+static void check_frame(const load_input *in, uint64_t position, size_t length)
+{
+    const mop_image image = load_image(in);
+    const uint8_t *bytes = lent_bytes(&reply);
+    const mop_fields f = mop_read(bytes, length);
+    const bool with = in->settings.with_parameters == 1;
+    const uint64_t last = with ? image.segments : image.segments - 1;
+    const unsigned code = position < last ? MOP_CODE_LOAD
+                          : with          ? MOP_CODE_PARAMETERS
+                                          : MOP_CODE_LOAD_TRANSFER;
+    demand(f.refusal == MOP_ACCEPTED && f.code == code, "another code");
+    demand(f.number == (uint8_t)position, "another number");
+    demand(f.transfer == (position < last ? 0 : image.transfer),
+        "another transfer address");
+    if (code == MOP_CODE_PARAMETERS)
+        demand(
+            f.data_length == in->parameters_length &&
+                memcmp(bytes + f.data_at, in->parameters, f.data_length) == 0,
+            "another string");
+}
+
+static void check_answer(
+    const load_input *in, unsigned refusal, mop_load_step step)
 {
     check_written(step.answer, refusal, &reply);
     if (refusal != MOP_ACCEPTED || in->session.verdict != MOP_LOAD_RUNNING) {
@@ -106,28 +142,23 @@ static void check_answer(const input *in, unsigned refusal, mop_load_step step)
     if (step.answer.length == 0 && step.session.verdict == in->session.verdict)
         demand(same(step.session, in->session), "neither taken nor ignored");
     if (step.answer.length > 0) {
-        const mop_fields f = mop_read(lent_bytes(&reply), step.answer.length);
-        demand(
-            f.refusal == MOP_ACCEPTED &&
-                (f.code == MOP_CODE_LOAD || f.code == MOP_CODE_LOAD_TRANSFER),
-            "a frame that is no load");
-        demand(f.number == (uint8_t)step.session.position, "another number");
+        check_frame(in, step.session.position, step.answer.length);
         demand(step.session.sent == in->session.sent + 1, "another count");
     }
 }
 
-/* The call on both sides; what it gives. */
-static mop_load_step check_call(const input *in)
+mop_load_step load_check(const load_input *in)
 {
     static uint8_t clear[BEYOND];
     mop_load_step steps[2];
-    const unsigned refusal = wanted(in);
+    const unsigned refusal = load_refusal(in);
     random_bytes(clear, in->room);
     for (int s = BEHIND; s <= BEFORE; s++) {
         const enum side side = (enum side)s;
         lent_place(
             &record, side, (const uint8_t *)&in->session, sizeof in->session);
         lent_place(&file, side, in->file, in->file_length);
+        lent_place(&parameters, side, in->parameters, in->parameters_length);
         lent_place(&frame, side, in->frame, in->frame_length);
         lent_place(&reply, side, clear, in->room);
         steps[s] = make_call(in);
@@ -141,28 +172,47 @@ static mop_load_step check_call(const input *in)
 }
 
 /* The same input by value and in place: the same answer. */
-static void check_calls(input *in)
+static void check_calls(load_input *in)
 {
     in->call = once_in(3) ? LOAD_TIMER : LOAD_FRAME;
-    const mop_load_step by_value = check_call(in);
+    const mop_load_step by_value = load_check(in);
     in->call = is_timer(in) ? LOAD_UPDATE_TIMER : LOAD_UPDATE_FRAME;
-    const mop_load_step in_place = check_call(in);
+    const mop_load_step in_place = load_check(in);
     demand(same(by_value.session, in_place.session) &&
                by_value.answer.length == in_place.answer.length,
         "in place is not as by value");
 }
 
-/* Settings, mostly good. */
-static void any_settings(input *in)
+/* A parameter string, mostly good; where the load has none it is not looked
+ * at, whatever it is. */
+static void any_string(load_input *in)
 {
+    in->parameters_length =
+        make_entries(in->parameters, once_in(8) ? 2 * BEYOND : below(200));
+    if (once_in(8)) {
+        in->parameters_length = below(once_in(2) ? 4 : 2 * BEYOND);
+        random_bytes(in->parameters, in->parameters_length);
+    }
+    if (once_in(8) && in->parameters_length > 0)
+        in->parameters[below(in->parameters_length)] = (uint8_t)hostile();
+    if (once_in(16))
+        in->parameters_length = below(in->parameters_length + 1);
+}
+
+/* Settings, mostly good, and a string. The padding is anything. */
+static void any_settings(load_input *in)
+{
+    random_bytes((uint8_t *)&in->settings, sizeof in->settings);
+    in->settings.with_parameters = (uint8_t)(once_in(8) ? hostile() : below(2));
+    any_string(in);
     in->settings.segment_size =
         (uint32_t)(once_in(8) ? hostile() : 1 + below(once_in(2) ? 8 : 1490));
     in->settings.repeats = (uint32_t)(once_in(8) ? hostile() : below(256));
     in->room = any_room();
 }
 
-/* A record for n segments, mostly good; the padding is anything. */
-static void any_record(input *in, uint64_t n)
+/* A record for n frames, mostly good; the padding is anything. */
+static void any_record(load_input *in, uint64_t n)
 {
     mop_load *h = &in->session;
     const uint64_t r = (uint64_t)in->settings.repeats + 1;
@@ -187,7 +237,7 @@ static void any_record(input *in, uint64_t n)
 }
 
 /* A frame, often one that the load goes on with. */
-static void any_load_frame(input *in)
+static void any_load_frame(load_input *in)
 {
     in->frame_length = any_frame(in->frame);
     if (once_in(3))
@@ -202,21 +252,21 @@ static void any_load_frame(input *in)
     }
 }
 
-static void check_any(input *in)
+static void check_any(load_input *in)
 {
     any_settings(in);
-    const mop_image image =
-        mop_image_check(in->file, in->file_length, in->settings.segment_size);
-    any_record(in, image.segments);
+    any_record(
+        in, load_image(in).segments + (in->settings.with_parameters == 1));
     any_load_frame(in);
     check_calls(in);
 }
 
 void test_load(void)
 {
-    static input in;
+    static load_input in;
     record = lent_make(sizeof(mop_load));
     file = lent_make(IMAGE_MOST);
+    parameters = lent_make(2 * BEYOND);
     frame = lent_make(BEYOND);
     reply = lent_make(BEYOND);
     for (size_t length = 0; length < BEYOND; length += stride())

@@ -56,10 +56,91 @@ static mop_machine_step make_call(const input *in)
         in->frame_length, lent_out(&memory), size, to, room);
 }
 
+static bool same_value(const mop_value *a, const mop_value *b)
+{
+    return a->length == b->length &&
+           memcmp(a->bytes, b->bytes, MOP_VALUE_MOST) == 0;
+}
+
+static bool same_parameters(const mop_parameters *a, const mop_parameters *b)
+{
+    return same_value(&a->target_name, &b->target_name) &&
+           same_value(&a->target_address, &b->target_address) &&
+           same_value(&a->host_name, &b->host_name) &&
+           same_value(&a->host_address, &b->host_address) &&
+           same_value(&a->host_time, &b->host_time);
+}
+
 static bool same(mop_machine a, mop_machine b)
 {
     return a.transfer == b.transfer && a.state == b.state &&
-           a.expected == b.expected && a.error == b.error;
+           a.expected == b.expected && a.error == b.error &&
+           same_parameters(&a.parameters, &b.parameters);
+}
+
+/* What the entries of a code 20 say: of each type the last value. */
+static mop_parameters said(const uint8_t *entries, size_t length)
+{
+    mop_parameters p = {0};
+    mop_value *const values[] = {NULL, &p.target_name, &p.target_address,
+        &p.host_name, &p.host_address, &p.host_time};
+    for (size_t at = 0; at < length; at += 2 + (size_t)entries[at + 1]) {
+        mop_value *value = values[entries[at]];
+        *value = (mop_value){.length = entries[at + 1]};
+        memcpy(value->bytes, entries + at + 2, value->length);
+    }
+    return p;
+}
+
+/* Whether the number rule lets the machine take this number. */
+static bool takes(mop_machine m, uint8_t number)
+{
+    if (m.state == MOP_MACHINE_LOADING)
+        return number == 0 || number == m.expected;
+    return number == 0 &&
+           (m.state == MOP_MACHINE_IDLE || m.state == MOP_MACHINE_REQUESTING);
+}
+
+/* Whether the reply is this code 10, or none. */
+static bool replies(mop_written answer, bool any, uint8_t number, uint8_t error)
+{
+    const uint8_t wanted_bytes[] = {MOP_CODE_REQUEST_LOAD, number, error};
+    if (!any)
+        return answer.length == 0;
+    return answer.length == sizeof wanted_bytes &&
+           memcmp(lent_bytes(&reply), wanted_bytes, sizeof wanted_bytes) == 0;
+}
+
+/* A code 20 that is taken starts the machine and is kept, whatever stood there.
+ * One that is a repeat gets the last reply again; all others are ignored. */
+static void check_parameters_frame(
+    const input *in, mop_fields f, mop_machine_step step)
+{
+    const mop_machine *m = &in->machine;
+    const bool taken = takes(*m, f.number);
+    const bool repeat = m->state == MOP_MACHINE_LOADING && f.number != 0 &&
+                        (uint8_t)(f.number + 1) == m->expected;
+    const mop_machine started = {.transfer = f.transfer,
+        .state = MOP_MACHINE_STARTED,
+        .parameters = said(in->frame + f.data_at, f.data_length)};
+    demand(lent_same_from(&memory, 0), "parameters changed memory");
+    demand(same(step.machine, taken ? started : *m),
+        "not what the parameters say");
+    demand(replies(step.answer, taken || repeat, (uint8_t)(f.number + 1),
+               taken ? 0 : m->error),
+        "another reply to parameters");
+}
+
+/* No other frame and no timer changes what it keeps. */
+static void check_kept(const input *in, mop_machine_step step)
+{
+    const mop_fields f = mop_read(in->frame, in->frame_length);
+    if (in->call == MACHINE_FRAME && f.code == MOP_CODE_PARAMETERS)
+        check_parameters_frame(in, f, step);
+    else
+        demand(
+            same_parameters(&step.machine.parameters, &in->machine.parameters),
+            "what it keeps was changed");
 }
 
 static void check_answer(
@@ -73,6 +154,7 @@ static void check_answer(
         return;
     }
     demand(step.machine.state <= MOP_MACHINE_STARTED, "a state that is none");
+    check_kept(in, step);
     if (step.answer.length == 0 && step.machine.state == in->machine.state)
         demand(same(step.machine, in->machine) && lent_same_from(&memory, 0),
             "neither taken nor ignored");
@@ -81,7 +163,7 @@ static void check_answer(
             "a reply that can't be read");
 }
 
-static void check_call(input *in)
+static mop_machine_step check_call(input *in)
 {
     static uint8_t clear[BEYOND];
     mop_machine_step steps[2];
@@ -102,6 +184,7 @@ static void check_call(input *in)
     demand(same(steps[0].machine, steps[1].machine) &&
                steps[0].answer.length == steps[1].answer.length,
         "two answers to one call");
+    return steps[0];
 }
 
 /* Settings and a record, mostly good; the padding is anything. */
@@ -118,16 +201,17 @@ static void any_numbers(input *in)
 /* A frame, often one that the machine takes. */
 static void any_machine_frame(input *in)
 {
-    static const uint8_t takes[] = {0, 2, 4, 24, 1};
+    static const uint8_t heeds[] = {0, 2, 4, 20, 24, 1};
     in->frame_length = any_frame(in->frame);
     if (once_in(3))
         return;
-    const uint8_t code = takes[below(sizeof takes)];
+    const uint8_t code = heeds[below(sizeof heeds)];
     in->frame_length = make_frame(code, in->frame);
-    if (code == 0 || code == 2) {
-        in->frame[1] = (uint8_t)(in->machine.expected - below(3));
+    if (code == 0 || code == 2 || code == 20)
+        in->frame[1] =
+            (uint8_t)(once_in(3) ? 0 : in->machine.expected - below(3));
+    if (code == 0 || code == 2)
         put32(in->frame + 2, below(in->memory_length + 2));
-    }
     if (code == 4)
         put32(in->frame + 1, below(in->memory_length + 2));
 }
@@ -138,6 +222,81 @@ static void check_any(const uint8_t *bytes, size_t length, enum call call)
     any_numbers(&in);
     any_machine_frame(&in);
     check_call(&in);
+}
+
+/* ---- Parameters. */
+
+/* Lays an entry, whose value are these letters, behind the others. */
+static void lay(input *in, uint8_t type, const char *letters)
+{
+    const size_t length = strlen(letters);
+    in->frame[in->frame_length++] = type;
+    in->frame[in->frame_length++] = (uint8_t)length;
+    memcpy(in->frame + in->frame_length, letters, length);
+    in->frame_length += length;
+}
+
+/* A code 20 that is taken, with the entries that lay_entries lays: its end. */
+static mop_machine_step kept(input *in, void (*lay_entries)(input *in))
+{
+    in->call = MACHINE_FRAME;
+    in->settings = (mop_machine_settings){.reply_bytes = 1};
+    in->room = MOP_FRAME_MOST;
+    in->frame[0] = MOP_CODE_PARAMETERS;
+    in->frame[1] = 0;
+    in->frame_length = 2;
+    lay_entries(in);
+    in->frame[in->frame_length] = 0;
+    put32(in->frame + in->frame_length + 1, 0x01020304);
+    in->frame_length += 5;
+    return check_call(in);
+}
+
+static void lay_all(input *in)
+{
+    lay(in, MOP_ENTRY_TARGET_NAME, "ABCDEFGHIJKLMNOP");
+    lay(in, MOP_ENTRY_TARGET_ADDRESS, "abcdef");
+    lay(in, MOP_ENTRY_HOST_NAME, "QRSTUVWXYZ012345");
+    lay(in, MOP_ENTRY_HOST_ADDRESS, "ghijkl");
+    lay(in, MOP_ENTRY_HOST_TIME, "\x13\x55\x03\x1F\x17\x3B\x3B\x63\xFB\xE2");
+}
+
+static void lay_nothing(input *in)
+{
+    (void)in;
+}
+
+/* Types more than once and in any order, the shorter value last. */
+static void lay_again(input *in)
+{
+    lay(in, MOP_ENTRY_HOST_NAME, "QRSTUVWXYZ012345");
+    lay(in, MOP_ENTRY_TARGET_ADDRESS, "abcdef");
+    lay(in, MOP_ENTRY_TARGET_ADDRESS, "m");
+    lay(in, MOP_ENTRY_HOST_NAME, "");
+    lay(in, MOP_ENTRY_TARGET_NAME, "N");
+    lay(in, MOP_ENTRY_TARGET_NAME, "OP");
+}
+
+/* What is kept, over a record that keeps longer values. */
+static void check_parameters(void)
+{
+    static input in;
+    const mop_parameters none = {0}, again = {.target_name = {2, {'O', 'P'}},
+                                         .target_address = {1, {'m'}}};
+    const mop_parameters all = kept(&in, lay_all).machine.parameters;
+    demand(all.target_name.length == 16 && all.target_name.bytes[15] == 'P' &&
+               all.target_address.length == 6 &&
+               all.target_address.bytes[5] == 'f' &&
+               all.host_name.length == 16 && all.host_name.bytes[0] == 'Q' &&
+               all.host_address.length == 6 &&
+               all.host_address.bytes[0] == 'g' && all.host_time.length == 10 &&
+               all.host_time.bytes[9] == 0xE2,
+        "not what was given");
+    in.machine = (mop_machine){.parameters = all};
+    const mop_parameters twice = kept(&in, lay_again).machine.parameters;
+    demand(same_parameters(&twice, &again), "not the last values alone");
+    const mop_parameters nothing = kept(&in, lay_nothing).machine.parameters;
+    demand(same_parameters(&nothing, &none), "values that were not given");
 }
 
 static const enum call each[] = {
@@ -175,5 +334,6 @@ void test_machine(void)
     for (unsigned i = 0; i < cases(200000); i++)
         check_any(bytes, below(once_in(8) ? sizeof bytes : 100),
             once_in(8) ? each[below(4)] : MACHINE_FRAME);
+    check_parameters();
     check_longest();
 }

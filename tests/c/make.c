@@ -188,6 +188,16 @@ size_t make_image(uint8_t to[IMAGE_MOST])
     return bytes + 12 * regions + 16;
 }
 
+size_t make_one_region(uint8_t to[IMAGE_MOST], size_t bytes)
+{
+    random_bytes(to, bytes);
+    const uint64_t rest[] = {
+        64, 0, bytes, bytes, 1, random_any(), bytes + 12 + 16};
+    for (size_t i = 0; i < sizeof rest / sizeof rest[0]; i++)
+        put32(to + bytes + 4 * i, rest[i]);
+    return bytes + 12 + 16;
+}
+
 size_t any_image(uint8_t to[IMAGE_MOST])
 {
     size_t length = make_image(to);

@@ -30,8 +30,10 @@ size_t make_entries(uint8_t *to, size_t most);
 size_t make_frame(uint8_t code, uint8_t to[BEYOND]);
 size_t any_frame(uint8_t to[BEYOND]);
 
-/* A good image file, and any file, often a damaged one. */
+/* A good image file, one of a single region of so many bytes, and any file,
+ * often a damaged one. */
 size_t make_image(uint8_t to[IMAGE_MOST]);
+size_t make_one_region(uint8_t to[IMAGE_MOST], size_t bytes);
 size_t any_image(uint8_t to[IMAGE_MOST]);
 
 /* Numbers low byte first. */

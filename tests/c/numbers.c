@@ -118,6 +118,20 @@ static void test_frames(void)
         "the longest frame");
 }
 
+/* A parameter string of so many bytes, all names. */
+static size_t make_string(size_t length)
+{
+    for (size_t at = 0; at < length;) {
+        const size_t left = length - at;
+        const size_t entry = left <= 18 ? left : left == 19 ? 17 : 18;
+        memset(large + at, 0, entry);
+        large[at] = MOP_ENTRY_TARGET_NAME;
+        large[at + 1] = (uint8_t)(entry - 2);
+        at += entry;
+    }
+    return length;
+}
+
 /* On Ethernet the longest of each fills what two bytes leave of 1,500. */
 static void test_ethernet(void)
 {
@@ -130,7 +144,10 @@ static void test_ethernet(void)
             .length;
     const size_t loop =
         mop_write_loop(0, large, MOP_ETHERNET_LOOP_DATA_MOST, out, n).length;
-    demand(load == left && data == left && loop == left &&
+    const size_t string = make_string(MOP_ETHERNET_PARAMETERS_MOST);
+    const size_t parameters =
+        mop_write_parameters(0, large, string, 0, out, n).length;
+    demand(load == left && data == left && loop == left && parameters == left &&
                MOP_ETHERNET_FRAME_MOST == left,
         "a limit on Ethernet");
 }
@@ -149,8 +166,23 @@ static int loop_refusal(uint32_t repeats, size_t data_length)
         .answer.refusal;
 }
 
+/* Of a load that ends with a string of so many bytes. */
+static int load_refusal(size_t string_length)
+{
+    static uint8_t string[2 * MOP_FRAME_MOST];
+    const mop_load_settings s = {.segment_size = 1, .with_parameters = 1};
+    memcpy(string, large, make_string(string_length));
+    make_image(100, 1);
+    return mop_load_timer(
+        s, mop_load_start(), large, 100, string, string_length, out, sizeof out)
+        .answer.refusal;
+}
+
 static void test_settings(void)
 {
+    demand(load_refusal(MOP_PARAMETERS_MOST) == MOP_ACCEPTED &&
+               load_refusal(MOP_PARAMETERS_MOST + 1) == MOP_REFUSED_LONG,
+        "the longest string");
     demand(machine_refusal(MOP_DUMP_DATA_MOST, MOP_MEMORY_MOST) == MOP_ACCEPTED,
         "the machine's most");
     demand(machine_refusal(MOP_DUMP_DATA_MOST + 1, 0) == MOP_REFUSED_RANGE &&
@@ -200,8 +232,10 @@ static int may(uint8_t type, uint8_t length)
 
 static void test_entries(void)
 {
-    demand(may(MOP_ENTRY_TARGET_NAME, 16) && may(MOP_ENTRY_HOST_NAME, 16) &&
-               !may(MOP_ENTRY_TARGET_NAME, 17) && !may(MOP_ENTRY_HOST_NAME, 17),
+    demand(may(MOP_ENTRY_TARGET_NAME, MOP_VALUE_MOST) &&
+               may(MOP_ENTRY_HOST_NAME, MOP_VALUE_MOST) &&
+               !may(MOP_ENTRY_TARGET_NAME, MOP_VALUE_MOST + 1) &&
+               !may(MOP_ENTRY_HOST_NAME, MOP_VALUE_MOST + 1),
         "the names");
     demand(may(MOP_ENTRY_TARGET_ADDRESS, 6) && may(MOP_ENTRY_HOST_ADDRESS, 6) &&
                !may(MOP_ENTRY_TARGET_ADDRESS, 7) &&
@@ -261,19 +295,20 @@ static int loaded(int answers, uint8_t error)
                         .length;
     make_image(100, 2);
     demand(h.verdict == MOP_LOAD_RUNNING, "a load that begins");
-    mop_load_update_frame(s, &h, large, 100, frame, length, out, sizeof out);
+    mop_load_update_frame(
+        s, &h, large, 100, NULL, 0, frame, length, out, sizeof out);
     for (int i = 1; i <= answers; i++) {
         length = mop_write_request_load((uint8_t)i, 0, frame, n).length;
         mop_load_update_frame(
-            s, &h, large, 100, frame, length, out, sizeof out);
+            s, &h, large, 100, NULL, 0, frame, length, out, sizeof out);
     }
     length =
         mop_write_request_load((uint8_t)(answers + 1), error, frame, n).length;
     if (error != 0)
         mop_load_update_frame(
-            s, &h, large, 100, frame, length, out, sizeof out);
+            s, &h, large, 100, NULL, 0, frame, length, out, sizeof out);
     else
-        mop_load_update_timer(s, &h, large, 100, out, sizeof out);
+        mop_load_update_timer(s, &h, large, 100, NULL, 0, out, sizeof out);
     return h.verdict;
 }
 
@@ -331,12 +366,12 @@ static void test_verdicts(void)
 int main(void)
 {
     test_codes();
+    test_entries(); /* before a machine's record, which has 16 bytes a value */
     test_images();
     test_frames();
     test_ethernet();
     test_settings();
     test_programs();
-    test_entries();
     test_states();
     test_verdicts();
     return 0;

@@ -18,19 +18,21 @@ mop_machine_step REAL(mop_machine_frame)(mop_machine_settings, mop_machine,
     const uint8_t *, size_t, uint8_t *, size_t, uint8_t *, size_t);
 mop_machine_step WRAP(mop_machine_frame)(mop_machine_settings, mop_machine,
     const uint8_t *, size_t, uint8_t *, size_t, uint8_t *, size_t);
-mop_load_step REAL(mop_load_timer)(
-    mop_load_settings, mop_load, const uint8_t *, size_t, uint8_t *, size_t);
-mop_load_step WRAP(mop_load_timer)(
-    mop_load_settings, mop_load, const uint8_t *, size_t, uint8_t *, size_t);
+mop_load_step REAL(mop_load_timer)(mop_load_settings, mop_load, const uint8_t *,
+    size_t, const uint8_t *, size_t, uint8_t *, size_t);
+mop_load_step WRAP(mop_load_timer)(mop_load_settings, mop_load, const uint8_t *,
+    size_t, const uint8_t *, size_t, uint8_t *, size_t);
 mop_dump_step REAL(mop_dump_frame)(mop_dump_settings, mop_dump, const uint8_t *,
     size_t, uint8_t *, size_t, uint8_t *, size_t);
 mop_dump_step WRAP(mop_dump_frame)(mop_dump_settings, mop_dump, const uint8_t *,
     size_t, uint8_t *, size_t, uint8_t *, size_t);
 
 mop_written REAL(mop_load_update_frame)(mop_load_settings, mop_load *,
-    const uint8_t *, size_t, const uint8_t *, size_t, uint8_t *, size_t);
+    const uint8_t *, size_t, const uint8_t *, size_t, const uint8_t *, size_t,
+    uint8_t *, size_t);
 mop_written WRAP(mop_load_update_frame)(mop_load_settings, mop_load *,
-    const uint8_t *, size_t, const uint8_t *, size_t, uint8_t *, size_t);
+    const uint8_t *, size_t, const uint8_t *, size_t, const uint8_t *, size_t,
+    uint8_t *, size_t);
 mop_written REAL(mop_dump_update_timer)(
     mop_dump_settings, mop_dump *, const uint8_t *, size_t, uint8_t *, size_t);
 mop_written WRAP(mop_dump_update_timer)(
@@ -111,20 +113,22 @@ mop_machine_step WRAP(mop_machine_frame)(mop_machine_settings settings,
 }
 #elif WRONG == 10 /* keeps a count between calls */
 mop_load_step WRAP(mop_load_timer)(mop_load_settings settings, mop_load session,
-    const uint8_t *file, size_t size, uint8_t *reply, size_t room)
+    const uint8_t *file, size_t size, const uint8_t *string, size_t length,
+    uint8_t *reply, size_t room)
 {
     static unsigned calls;
-    mop_load_step step =
-        REAL(mop_load_timer)(settings, session, file, size, reply, room);
+    mop_load_step step = REAL(mop_load_timer)(
+        settings, session, file, size, string, length, reply, room);
     step.session.repeats += calls++ % 1000 == 999;
     return step;
 }
 #elif WRONG == 11 /* refuses in another order: 9 before 10 */
 mop_load_step WRAP(mop_load_timer)(mop_load_settings settings, mop_load session,
-    const uint8_t *file, size_t size, uint8_t *reply, size_t room)
+    const uint8_t *file, size_t size, const uint8_t *string, size_t length,
+    uint8_t *reply, size_t room)
 {
-    mop_load_step step =
-        REAL(mop_load_timer)(settings, session, file, size, reply, room);
+    mop_load_step step = REAL(mop_load_timer)(
+        settings, session, file, size, string, length, reply, room);
     if (room < MOP_FRAME_MOST)
         step.answer.refusal = MOP_REFUSED_ROOM;
     return step;
@@ -143,11 +147,12 @@ mop_dump_step WRAP(mop_dump_frame)(mop_dump_settings settings, mop_dump session,
 }
 #elif WRONG == 13 /* counts a frame that it refuses */
 mop_written WRAP(mop_load_update_frame)(mop_load_settings settings,
-    mop_load *session, const uint8_t *file, size_t size, const uint8_t *frame,
-    size_t length, uint8_t *reply, size_t room)
+    mop_load *session, const uint8_t *file, size_t size, const uint8_t *string,
+    size_t string_length, const uint8_t *frame, size_t length, uint8_t *reply,
+    size_t room)
 {
-    const mop_written answer = REAL(mop_load_update_frame)(
-        settings, session, file, size, frame, length, reply, room);
+    const mop_written answer = REAL(mop_load_update_frame)(settings, session,
+        file, size, string, string_length, frame, length, reply, room);
     session->sent += answer.refusal != 0;
     return answer;
 }
@@ -180,6 +185,60 @@ mop_machine_step WRAP(mop_machine_frame)(mop_machine_settings settings,
         settings, machine, frame, length, memory, size, reply, room);
     if (step.answer.refusal == 0 && step.answer.length == 0)
         step.machine.error ^= 1;
+    return step;
+}
+#elif WRONG == 17 /* looks at the byte behind the parameter string */
+mop_load_step WRAP(mop_load_timer)(mop_load_settings settings, mop_load session,
+    const uint8_t *file, size_t size, const uint8_t *string, size_t length,
+    uint8_t *reply, size_t room)
+{
+    (void)*(volatile const uint8_t *)(string + length);
+    return REAL(mop_load_timer)(
+        settings, session, file, size, string, length, reply, room);
+}
+#elif WRONG == 18 /* judges the frame before the parameter string */
+mop_written WRAP(mop_load_update_frame)(mop_load_settings settings,
+    mop_load *session, const uint8_t *file, size_t size, const uint8_t *string,
+    size_t string_length, const uint8_t *frame, size_t length, uint8_t *reply,
+    size_t room)
+{
+    mop_written answer = REAL(mop_load_update_frame)(settings, session, file,
+        size, string, string_length, frame, length, reply, room);
+    const uint8_t refusal = mop_read(frame, length).refusal;
+    if (mop_refused_frame(answer.refusal) && refusal != 0)
+        answer.refusal = refusal;
+    return answer;
+}
+#elif WRONG == 19 /* takes the string for one that the load has not */
+mop_load_step WRAP(mop_load_timer)(mop_load_settings settings, mop_load session,
+    const uint8_t *file, size_t size, const uint8_t *string, size_t length,
+    uint8_t *reply, size_t room)
+{
+    settings.with_parameters &= (uint8_t)(length > 0 ? UINT8_MAX : 0);
+    return REAL(mop_load_timer)(
+        settings, session, file, size, string, length, reply, room);
+}
+#elif WRONG == 20 /* leaves the end of a longer value behind a shorter one */
+mop_machine_step WRAP(mop_machine_frame)(mop_machine_settings settings,
+    mop_machine machine, const uint8_t *frame, size_t length, uint8_t *memory,
+    size_t size, uint8_t *reply, size_t room)
+{
+    mop_machine_step step = REAL(mop_machine_frame)(
+        settings, machine, frame, length, memory, size, reply, room);
+    mop_value *name = &step.machine.parameters.host_name;
+    for (size_t i = name->length; i < MOP_VALUE_MOST; i++)
+        name->bytes[i] = machine.parameters.host_name.bytes[i];
+    return step;
+}
+#elif WRONG == 21 /* keeps what stood there for a type that is absent */
+mop_machine_step WRAP(mop_machine_frame)(mop_machine_settings settings,
+    mop_machine machine, const uint8_t *frame, size_t length, uint8_t *memory,
+    size_t size, uint8_t *reply, size_t room)
+{
+    mop_machine_step step = REAL(mop_machine_frame)(
+        settings, machine, frame, length, memory, size, reply, room);
+    if (step.machine.parameters.host_time.length == 0)
+        step.machine.parameters.host_time = machine.parameters.host_time;
     return step;
 }
 #endif

@@ -4,7 +4,8 @@ set -u
 out=$1 lib=$2
 wrong=(mop_read mop_read mop_read mop_write_loop mop_write_loop mop_write_loop mop_image_check
     mop_machine_frame mop_machine_frame mop_load_timer mop_load_timer mop_dump_frame
-    mop_load_update_frame mop_dump_update_timer mop_dump_update_timer mop_machine_frame)
+    mop_load_update_frame mop_dump_update_timer mop_dump_update_timer mop_machine_frame
+    mop_load_timer mop_load_update_frame mop_load_timer mop_machine_frame mop_machine_frame)
 found=0
 for i in "${!wrong[@]}"; do
     n=$((i + 1)) call=${wrong[$i]}

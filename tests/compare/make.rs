@@ -80,12 +80,12 @@ pub fn entries(random: &mut Random, room: usize) -> Vec<Vec<u8>> {
 }
 
 /// Names that have exactly `length` bytes together; not for a length of 1.
-pub fn filling(random: &mut Random, length: usize) -> Vec<u8> {
+pub fn filling(random: &mut Random, length: usize) -> Vec<Vec<u8>> {
     let mut entries = Vec::new();
     let mut left = length;
     while left > 0 {
         let next = if left == 19 { 17 } else { left.min(18) };
-        entries.extend(name(random, next - 2));
+        entries.push(name(random, next - 2));
         left -= next;
     }
     entries

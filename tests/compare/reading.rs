@@ -265,7 +265,7 @@ impl Compare {
     /// excess is found before the bad entry.
     fn long_parameters(&mut self) {
         for length in [1498, 1499, 1500, 1501, 1502, 2000] {
-            let entries = make::filling(&mut self.random, length - 7);
+            let entries = make::filling(&mut self.random, length - 7).concat();
             let mut frame = make::parameters(&mut self.random, &entries);
             for (kind, answer) in [(1, 0), (6, 4)] {
                 frame[2] = kind;

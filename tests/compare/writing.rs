@@ -271,7 +271,7 @@ impl Compare {
     /// Entries that fill a frame to about 1,500 bytes: 4, then 2, then 9.
     fn long_entry_strings(&mut self) {
         for length in 1480..1520 {
-            let mut entries = make::filling(&mut self.random, length);
+            let mut entries = make::filling(&mut self.random, length).concat();
             self.entry_string("entries about 1,500 bytes", &entries, true);
             entries.push(5);
             self.entry_string("entries about 1,500 bytes", &entries, false);

@@ -32,6 +32,7 @@ static uint32_t below(uint32_t n)
 static size_t message(uint8_t *out)
 {
     static const uint8_t codes[] = {0, 1, 2, 3, 4, 8, 10, 12, 14, 20, 24, 26, 5, 255};
+    static const uint8_t name[] = {MOP_ENTRY_TARGET_NAME, 5, 'S', 'T', 'O', 'R', 'M'};
     uint8_t data[64];
     for (size_t i = 0; i < sizeof data; i++)
         data[i] = (uint8_t)below(256);
@@ -46,6 +47,8 @@ static size_t message(uint8_t *out)
         return mop_write_volunteer(out, MOP_FRAME_MOST).length;
     case 4:
         return mop_write_dump_data(3 * below(20000), data, 1 + below(3), out, MOP_FRAME_MOST).length;
+    case 5:
+        return mop_write_parameters(data[0] & 1, name, sizeof name, 0, out, MOP_FRAME_MOST).length;
     default:
         out[0] = codes[below(sizeof codes)];
         memcpy(out + 1, data, sizeof data - 1);

@@ -18,6 +18,9 @@ bool fuzz_raw(void);
 bool fuzz_load(void);
 bool fuzz_dump(void);
 bool fuzz_machine(void);
+bool fuzz_name(void);
+bool fuzz_address(void);
+bool fuzz_time(void);
 
 /* Ends the run, with the kind and number of the input and its bytes. */
 _Noreturn void failed(const char *what);
@@ -48,6 +51,9 @@ extern sample input;
 void put_byte(uint8_t byte);
 void put_bytes(const void *bytes, size_t length);
 void put_low_first(uint32_t value, size_t length);
+
+/* A good parameter string of at most so many bytes: its length. */
+size_t any_entries(uint8_t *to, size_t most);
 
 /* Changes, adds, removes or doubles a few bytes. New ones are of the letters, if there are any. */
 void mutate(const char *letters);

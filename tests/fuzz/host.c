@@ -8,12 +8,15 @@
 #define IMAGE_LENGTH 228
 #define DUMP_LENGTH 300
 #define UNTOUCHED 0xA5
+#define STRING_MOST 100
 
 typedef struct session {
     bool dump;
     mop_load_settings load_settings;
     mop_load load;
     uint8_t image[IMAGE_LENGTH];
+    uint8_t string[STRING_MOST];
+    size_t string_length;
     mop_dump_settings dump_settings;
     mop_dump taken;
     uint8_t buffer[DUMP_LENGTH];
@@ -37,9 +40,10 @@ static mop_written update(
         return mop_dump_update_frame(
             s->dump_settings, &s->taken, frame, frame_length, s->buffer, DUMP_LENGTH, reply, reply_length);
     if (timer)
-        return mop_load_update_timer(s->load_settings, &s->load, s->image, IMAGE_LENGTH, reply, reply_length);
-    return mop_load_update_frame(
-        s->load_settings, &s->load, s->image, IMAGE_LENGTH, frame, frame_length, reply, reply_length);
+        return mop_load_update_timer(
+            s->load_settings, &s->load, s->image, IMAGE_LENGTH, s->string, s->string_length, reply, reply_length);
+    return mop_load_update_frame(s->load_settings, &s->load, s->image, IMAGE_LENGTH, s->string, s->string_length, frame,
+        frame_length, reply, reply_length);
 }
 
 static bool would_begin(const void *job, const line_frame *frame)
@@ -107,6 +111,12 @@ static void check_buffer(const session *s)
         require(i < s->taken.filled || s->buffer[i] == UNTOUCHED, "nothing behind the bytes filled is written");
 }
 
+/* What a load ends with. */
+static uint8_t last_code(const session *s)
+{
+    return s->load_settings.with_parameters ? MOP_CODE_PARAMETERS : MOP_CODE_LOAD_TRANSFER;
+}
+
 /* What was sent: a message of a host, to the machine; an offer of assistance to whoever asked. */
 static size_t check_sent(const host *h, const session *s, const line_frame *frame)
 {
@@ -120,7 +130,7 @@ static size_t check_sent(const host *h, const session *s, const line_frame *fram
         }
         require(h->named && memcmp(sent.to, h->machine, ADDRESS_LENGTH) == 0, "a frame goes to the machine");
         require(s->dump ? sent.code == MOP_CODE_REQUEST_DUMP || sent.code == MOP_CODE_DUMP_COMPLETE
-                        : sent.code == MOP_CODE_LOAD || sent.code == MOP_CODE_LOAD_TRANSFER,
+                        : sent.code == MOP_CODE_LOAD || sent.code == last_code(s),
             "a frame is one of a load or of a dump");
     }
     require(count <= 1, "one frame at most answers one");
@@ -170,7 +180,9 @@ static void make_session(session *s)
     memcpy(s->image + IMAGE_LENGTH - sizeof rest, rest, sizeof rest);
     s->load = mop_load_start();
     s->taken = mop_dump_start();
-    s->load_settings = (mop_load_settings){.segment_size = 10 + below(200), .repeats = below(8)};
+    s->load_settings =
+        (mop_load_settings){.segment_size = 10 + below(200), .repeats = below(8), .with_parameters = one_in(2)};
+    s->string_length = any_entries(s->string, sizeof s->string);
     s->dump_settings = (mop_dump_settings){
         .length = DUMP_LENGTH, .address = below(1000), .request_bytes = 20 + below(40), .repeats = below(8)};
 }

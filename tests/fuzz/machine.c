@@ -4,8 +4,10 @@
 #undef main
 
 #include "fuzz.h"
+#include "slow.h"
 
 #define MEMORY_LENGTH 256
+#define STRING_MOST 100
 
 int mopmachine_main(int count, char **words);
 
@@ -20,6 +22,7 @@ static int hand_over(machine_end *m, line_frame *frame)
 static mop_written host_message(const machine_end *m, uint8_t *message)
 {
     static const uint8_t data[40] = {1, 2, 3, 4, 5};
+    uint8_t string[STRING_MOST];
     uint32_t at = below(MEMORY_LENGTH - 20), length = below(sizeof data);
     uint8_t number = (uint8_t)(m->machine.state == MOP_MACHINE_LOADING ? m->machine.expected - one_in(12) : 0);
     if (memcmp(m->host, ASSISTANCE, ADDRESS_LENGTH) == 0 || one_in(12))
@@ -33,6 +36,9 @@ static mop_written host_message(const machine_end *m, uint8_t *message)
         return mop_write_loop(7, data, length, message, MOP_FRAME_MOST);
     case 3:
         return mop_write_dump_complete(message, MOP_FRAME_MOST);
+    case 4:
+        return mop_write_parameters(
+            number, string, any_entries(string, sizeof string), any_number(), message, MOP_FRAME_MOST);
     default:
         return mop_write_load(number, at, data, length, message, MOP_FRAME_MOST);
     }
@@ -69,6 +75,32 @@ static void check_memory(const machine_end *m, uint8_t *old, const line_frame *f
     require(memcmp(old, m->memory.bytes, MEMORY_LENGTH) == 0, "a load changes memory where it says");
 }
 
+static void check_value(const mop_value *value, const line_frame *frame, const mop_fields *fields, int type)
+{
+    uint8_t bytes[16];
+    size_t length = slow_entry(frame->bytes + fields->data_at, fields->data_length, type, bytes);
+    require(value->length == length && memcmp(value->bytes, bytes, sizeof bytes) == 0, "the last value is kept");
+}
+
+/* It keeps what the parameters that start it say; nothing else changes what it keeps. */
+static void check_kept(const machine_end *m, const mop_machine *before, const line_frame *frame)
+{
+    const mop_parameters *p = &m->machine.parameters;
+    mop_fields fields = mop_read(frame->bytes, frame->length);
+    bool starts = before->state != MOP_MACHINE_STARTED && m->machine.state == MOP_MACHINE_STARTED;
+    require(m->given == (starts && fields.code == MOP_CODE_PARAMETERS), "parameters start it or not");
+    if (!m->given) {
+        require(memcmp(p, &before->parameters, sizeof *p) == 0, "what is kept stays");
+        return;
+    }
+    check_value(&p->target_name, frame, &fields, MOP_ENTRY_TARGET_NAME);
+    check_value(&p->target_address, frame, &fields, MOP_ENTRY_TARGET_ADDRESS);
+    check_value(&p->host_name, frame, &fields, MOP_ENTRY_HOST_NAME);
+    check_value(&p->host_address, frame, &fields, MOP_ENTRY_HOST_ADDRESS);
+    check_value(&p->host_time, frame, &fields, MOP_ENTRY_HOST_TIME);
+    tell_state(m);
+}
+
 static void hand_frame(machine_end *m)
 {
     uint8_t message[MOP_FRAME_MOST], old[MEMORY_LENGTH];
@@ -88,6 +120,7 @@ static void hand_frame(machine_end *m)
     require(hand_over(m, &frame) == 0, "no frame ends a machine by an error");
     size_t count = check_sent(m);
     check_memory(m, old, &frame, foreign);
+    check_kept(m, &before, &frame);
     bool same = before.state == m->machine.state && before.expected == m->machine.expected &&
                 before.error == m->machine.error && before.transfer == m->machine.transfer;
     require(!foreign || same, "a stranger's frame leaves the machine's record");

@@ -23,6 +23,9 @@ static const kind kinds[] = {
     {"sessions of a load", "finished", fuzz_load, 10},
     {"sessions of a dump", "finished", fuzz_dump, 10},
     {"sessions of a machine", "started", fuzz_machine, 10},
+    {"names", "accepted", fuzz_name, 1},
+    {"addresses", "accepted", fuzz_address, 1},
+    {"times", "accepted", fuzz_time, 1},
 };
 
 static const kind *now;

@@ -1,5 +1,6 @@
 #include "slow.h"
 
+#include <stdio.h>
 #include <stdlib.h>
 #include <string.h>
 
@@ -187,4 +188,90 @@ int slow_image(const uint8_t *file, size_t length, size_t *entry)
         end = address + bytes;
     }
     return 0;
+}
+
+/* ---- Parameters ------------------------------------------------------ */
+
+/* The number that some digits are, or -1. */
+static int decimal(const char *text, size_t at, size_t count)
+{
+    char part[8] = "";
+    memcpy(part, text + at, count);
+    return count > 0 && strspn(part, "0123456789") == count ? (int)strtol(part, NULL, 10) : -1;
+}
+
+/* Area and node, if these numbers are written as the text is. */
+static bool node_address(const char *text, uint8_t *bytes)
+{
+    char back[32];
+    size_t length = strlen(text), dot = strcspn(text, ".");
+    if (dot > 4 || length < dot + 1 || length - dot - 1 > 4)
+        return false;
+    int area = decimal(text, 0, dot), node = decimal(text, dot + 1, length - dot - 1);
+    snprintf(back, sizeof back, "%d.%d", area, node);
+    if (strcmp(back, text) != 0 || area < 1 || area > 63 || node < 1 || node > 1023)
+        return false;
+    bytes[0] = (uint8_t)((area * 1024 + node) % 256);
+    bytes[1] = (uint8_t)((area * 1024 + node) / 256);
+    return true;
+}
+
+bool slow_address(const char *text, uint8_t *bytes, size_t *count)
+{
+    size_t length = strlen(text);
+    *count = 2;
+    if (strchr(text, '.') != NULL)
+        return node_address(text, bytes);
+    *count = (length + 1) / 3;
+    for (size_t i = 0; i < length; i++)
+        if (i % 3 == 2 ? text[i] != text[2] || strchr("-:", text[i]) == NULL : strchr(DIGITS, text[i]) == NULL)
+            return false;
+    if (length != 3 * *count - 1 || *count < 1 || *count > 6)
+        return false;
+    for (size_t i = 0; i < *count; i++)
+        bytes[i] = (uint8_t)value(text, 3 * i, 2);
+    return true;
+}
+
+/* The days of a month of a year. */
+static int days(int year, int month)
+{
+    bool leap = year % 400 == 0 || (year % 4 == 0 && year % 100 != 0);
+    return month == 2 ? 28 + leap : 30 + (month + month / 8) % 2;
+}
+
+bool slow_time(const char *text, uint8_t *bytes, size_t *count)
+{
+    char back[64];
+    if (strlen(text) != 29 || (text[23] != '+' && text[23] != '-'))
+        return false;
+    int year = decimal(text, 0, 4), month = decimal(text, 5, 2), day = decimal(text, 8, 2), hour = decimal(text, 11, 2),
+        minute = decimal(text, 14, 2), second = decimal(text, 17, 2), hundredths = decimal(text, 20, 2),
+        hours = decimal(text, 24, 2), minutes = decimal(text, 27, 2), sign = text[23] == '-' ? -1 : 1;
+    snprintf(back, sizeof back, "%04d-%02d-%02d %02d:%02d:%02d.%02d %c%02d:%02d", year, month, day, hour, minute,
+        second, hundredths, text[23], hours, minutes);
+    if (strcmp(back, text) != 0 || year < 0 || month < 1 || month > 12 || day < 1 || day > days(year, month) ||
+        hour < 0 || hour > 23 || minute < 0 || minute > 59 || second < 0 || second > 59 || hundredths < 0 ||
+        hours < 0 || hours > (sign < 0 ? 12 : 13) || minutes < 0 || minutes > 59)
+        return false;
+    const int all[] = {
+        year / 100, year % 100, month, day, hour, minute, second, hundredths, sign * hours, sign * minutes};
+    *count = sizeof all / sizeof all[0];
+    for (size_t i = 0; i < *count; i++)
+        bytes[i] = (uint8_t)((all[i] + 256) % 256);
+    return true;
+}
+
+size_t slow_entry(const uint8_t *entries, size_t length, int type, uint8_t bytes[16])
+{
+    size_t found = 0;
+    memset(bytes, 0, 16);
+    for (size_t at = 0; at < length; at += 2 + (size_t)entries[at + 1]) {
+        if (entries[at] != type)
+            continue;
+        found = entries[at + 1];
+        for (size_t i = 0; i < 16; i++)
+            bytes[i] = i < found ? entries[at + 2 + i] : 0;
+    }
+    return found;
 }

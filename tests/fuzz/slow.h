@@ -1,5 +1,5 @@
-/* slow.h: S-records, Intel HEX and image files as their descriptions say, one sign at a time and without a thought for
- * speed. Nothing of the driver is used. */
+/* slow.h: S-records, Intel HEX, image files, addresses and times as their descriptions say, one sign at a time and without a
+ * thought for speed. Nothing of the driver is used. */
 #ifndef SLOW_H
 #define SLOW_H
 
@@ -30,5 +30,12 @@ void slow_text(slow *s, const uint8_t *text, size_t length, bool motorola);
 
 /* The refusal of an image file: 0 for none, else 5 to 8, for 7 and 8 with the entry, counted from 0. */
 int slow_image(const uint8_t *file, size_t length, size_t *entry);
+
+/* The bytes of an address and of a time, as mopload's manual says; false if the text is none. */
+bool slow_address(const char *text, uint8_t *bytes, size_t *count);
+bool slow_time(const char *text, uint8_t *bytes, size_t *count);
+
+/* What the entries of a code 20 say of a type: the bytes of its last value and zeros up to 16; the length. */
+size_t slow_entry(const uint8_t *entries, size_t length, int type, uint8_t bytes[16]);
 
 #endif

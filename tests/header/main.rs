@@ -14,7 +14,7 @@ use std::env;
 use std::fs;
 use std::process::ExitCode;
 
-/// Names that differ on purpose: `data` is reserved in Rattle.
+/// Parameters whose names differ on purpose: `data` is reserved in Rattle.
 const NAMES: [(&str, &str); 2] = [("bytes", "data"), ("size", "memory_size")];
 
 /// What is compared: a call or struct, and its parts, each a type and a name.
@@ -94,9 +94,29 @@ fn print_fields(text: &str) {
     for (name, fields) in structs(&without_comments(text)) {
         println!("SIZE({name})");
         for field in fields.iter().filter_map(|field| field.rsplit(' ').next()) {
+            let field = field.split('[').next().unwrap_or(field);
             println!("PLACE({name}, {field})");
         }
     }
+}
+
+/// The header's names, each with its number.
+fn numbers(text: &str) -> BTreeMap<&str, &str> {
+    let named = text
+        .lines()
+        .filter_map(|line| line.trim().split_once(" = "));
+    named
+        .map(|(name, rest)| (name, rest.split([',', ' ']).next().unwrap_or("")))
+        .collect()
+}
+
+/// A field, the length of an array as a number.
+fn with_number(field: &str, numbers: &BTreeMap<&str, &str>) -> String {
+    let Some((name, length)) = field.split_once('[') else {
+        return field.to_string();
+    };
+    let length = length.trim_end_matches(']');
+    format!("{name}[{}]", numbers.get(length).unwrap_or(&length))
 }
 
 /// The codes of the enum but MOP_CODE_NONE: the writer's name, then the number
@@ -146,14 +166,13 @@ fn first_image() -> Parts {
 /// How many numbers such as 1,490 are neither that of a name nor the number of
 /// addresses; prints them.
 fn unnamed(text: &str) -> usize {
-    let named = text.lines().filter_map(|line| line.split_once(" = "));
-    let named = named.map(|(_, rest)| rest.split([',', ' ']).next().unwrap_or(""));
+    let named = numbers(text).into_values();
     let named: BTreeSet<&str> = named.chain(["4294967296"]).collect();
     let not_digit = |letter: char| !letter.is_ascii_digit() && letter != ',';
-    let numbers = text.split(not_digit).map(|word| word.trim_matches(','));
+    let written = text.split(not_digit).map(|word| word.trim_matches(','));
     let unnamed =
         |number: &&str| number.contains(',') && !named.contains(number.replace(',', "").as_str());
-    let unnamed: Vec<&str> = numbers.filter(unnamed).collect();
+    let unnamed: Vec<&str> = written.filter(unnamed).collect();
     for number in &unnamed {
         println!("DIFFERENCE: {number} in a comment is the number of no name");
     }
@@ -161,8 +180,12 @@ fn unnamed(text: &str) -> usize {
 }
 
 fn header(text: &str) -> Parts {
-    let without_comments = without_comments(text);
-    let mut parts = Parts::from_iter(structs(&without_comments));
+    let (without_comments, numbers) = (without_comments(text), numbers(text));
+    let mut parts = Parts::new();
+    for (name, fields) in structs(&without_comments) {
+        let fields = fields.iter().map(|field| with_number(field, &numbers));
+        parts.insert(name, fields.collect());
+    }
     for statement in without_comments.split(';').map(words) {
         let Some((head, parameters)) = statement.split_once('(') else {
             continue;
@@ -210,9 +233,11 @@ type Struct = (String, String);
 /// A parameter or field, or an answer, which has no name.
 struct Part {
     name: String,
-    /// Without the `&` or `&mut` of what is lent.
+    /// Without the `&` or `&mut` of what is lent, and of an array one element's.
     kind: String,
     lent: &'static str,
+    /// An array's length, with brackets.
+    length: String,
     /// The struct that it is, if it is one.
     found: Option<Struct>,
 }
@@ -261,6 +286,7 @@ fn calls_of(place: &str) -> Vec<(String, Vec<Part>)> {
         let (name, rest) = call.split_once('(').unwrap_or((call, ""));
         let (parameters, answer) = rest.split_once(") ->").unwrap_or((rest, ""));
         let mut parts = listed(place, parameters);
+        parts.iter_mut().for_each(Part::rename);
         parts.push(Part::new(place, &format!(": {}", answer.trim())));
         (name.to_string(), parts)
     });
@@ -306,19 +332,32 @@ impl Part {
             .iter()
             .find_map(|lent| Some((*lent, kind.strip_prefix(lent)?)))
             .unwrap_or(("", kind));
+        let array = kind
+            .strip_prefix('[')
+            .and_then(|kind| kind.split_once("; "));
+        let (kind, length) = match array {
+            Some((kind, length)) => (kind, format!("[{length}")),
+            None => (kind, String::new()),
+        };
         let plain = ["[u8]", "u8", "u16", "u32", "u64", "usize"].contains(&kind);
         Part {
             name: name.to_string(),
             kind: kind.to_string(),
             lent,
+            length,
             found: (!plain).then(|| declared(place, kind)),
+        }
+    }
+
+    /// Takes a parameter's name in the header.
+    fn rename(&mut self) {
+        if let Some((_, header)) = NAMES.iter().find(|(source, _)| *source == self.name) {
+            self.name = header.to_string();
         }
     }
 
     /// As C declares it.
     fn in_c(&self, names: &BTreeMap<Struct, String>) -> String {
-        let renamed = NAMES.iter().find(|(source, _)| *source == self.name);
-        let name = renamed.map_or(self.name.as_str(), |(_, header)| header);
         let kind = match (&self.found, self.kind.as_str()) {
             (Some(found), kind) => names.get(found).map_or(kind, |name| name).to_string(),
             (None, "[u8]") => "uint8_t".to_string(),
@@ -330,8 +369,8 @@ impl Part {
         let length = if self.kind == "[u8]" {
             " and length"
         } else {
-            ""
+            &self.length
         };
-        words(&format!("{constant}{kind} {star}{name}{length}"))
+        words(&format!("{constant}{kind} {star}{}{length}", self.name))
     }
 }

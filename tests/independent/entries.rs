@@ -1,5 +1,6 @@
 //! The entries of code 20 (PROTOCOL 2, "Messages"; document 3.0.0, 5.1.8).
-//! They are judged byte by byte: type, length, then the value.
+//! They are judged byte by byte: type, length, then the value. A machine keeps
+//! what they say (PROTOCOL 4, "Machine end").
 
 use crate::cursor::Cursor;
 use crate::refusal::{OUTSIDE_LIST, Refusal};
@@ -17,6 +18,9 @@ const NAME_MOST: u8 = 16;
 const ADDRESS_MOST: u8 = 6;
 const TIME_LENGTH: u8 = 10;
 
+/// No value is longer.
+pub const VALUE_MOST: usize = 16;
+
 /// Least and most of a time's century, year, month, day, hour, minute, second
 /// and hundredths. The offset's hours and minutes follow, with signs.
 const TIME_BOUNDS: [(u8, u8); 8] = [
@@ -29,6 +33,60 @@ const TIME_BOUNDS: [(u8, u8); 8] = [
     (0, 59),
     (0, 99),
 ];
+
+/// A value that a machine keeps: its length, its bytes, then zeros.
+#[derive(Clone, Copy, Debug, Default, PartialEq, Eq)]
+pub struct Value {
+    pub length: u8,
+    pub bytes: [u8; VALUE_MOST],
+}
+
+/// What a machine keeps of entries: of each type the last value, and nothing,
+/// length 0, for a type that is absent.
+#[derive(Clone, Copy, Debug, Default, PartialEq, Eq)]
+pub struct Kept {
+    pub target_name: Value,
+    pub target_address: Value,
+    pub host_name: Value,
+    pub host_address: Value,
+    pub host_time: Value,
+}
+
+impl Value {
+    fn new(value: &[u8]) -> Value {
+        let mut bytes = [0; VALUE_MOST];
+        bytes[..value.len()].copy_from_slice(value);
+        Value {
+            length: value.len() as u8,
+            bytes,
+        }
+    }
+}
+
+impl Kept {
+    /// What good entries say.
+    pub fn of(entries: &[u8]) -> Kept {
+        let mut kept = Kept::default();
+        let mut rest = entries;
+        while let [kind, length, behind @ ..] = rest {
+            let (value, next) = behind.split_at(usize::from(*length));
+            kept.set(*kind, Value::new(value));
+            rest = next;
+        }
+        kept
+    }
+
+    fn set(&mut self, kind: u8, value: Value) {
+        let place = match kind {
+            TARGET_NAME => &mut self.target_name,
+            TARGET_ADDRESS => &mut self.target_address,
+            HOST_NAME => &mut self.host_name,
+            HOST_ADDRESS => &mut self.host_address,
+            _ => &mut self.host_time,
+        };
+        *place = value;
+    }
+}
 
 /// Takes the entries and their end mark, and gives the entries without it.
 /// The walk knows nothing of the transfer address behind: an entry may

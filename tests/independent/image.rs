@@ -37,7 +37,7 @@ pub struct Region {
 pub struct Segment<'a> {
     pub address: u32,
     pub data: &'a [u8],
-    /// The last is sent as code 0, the others as code 2.
+    /// Whether it is the image's last.
     pub last: bool,
 }
 

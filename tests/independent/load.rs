@@ -1,18 +1,35 @@
 //! The host's load (PROTOCOL 5, "Host end").
 
+use crate::entries;
 use crate::frame::{self, Frame};
 use crate::image::{self, Image, SEGMENT_MOST};
-use crate::refusal::{BAD_RECORD, Refusal};
+use crate::refusal::{BAD_RECORD, BAD_SETTING, OUTSIDE_LIST, Refusal, TOO_LONG};
 use crate::step::{Reply, Sent, Verdict, check_most, check_repeats, good_record};
+
+/// No parameter string is longer: code 20 has 7 bytes besides.
+pub const STRING_MOST: usize = 1493;
 
 const OPERATING_SYSTEM: u8 = 2;
 
+/// What stays the same over a load, but for the image.
 #[derive(Clone, Copy, Debug)]
-pub struct Settings {
+pub struct Settings<'a> {
     /// S, the bytes of a segment.
     pub segment_size: u32,
     /// R, the repeats allowed per frame.
     pub repeats: u32,
+    /// The parameter string that the load ends with, perhaps an empty one.
+    pub parameters: Option<&'a [u8]>,
+}
+
+/// The string, if its mark says that one is given; otherwise it is not looked
+/// at.
+pub fn given(mark: u8, string: &[u8]) -> Result<Option<&[u8]>, Refusal> {
+    match mark {
+        0 => Ok(None),
+        1 => Ok(Some(string)),
+        _ => Err(BAD_SETTING),
+    }
 }
 
 /// The session's record.
@@ -26,7 +43,7 @@ pub enum Session {
 #[derive(Clone, Copy, Debug, PartialEq, Eq)]
 pub struct Progress {
     pub verdict: Verdict,
-    /// c, the segments answered.
+    /// c, the frames answered.
     pub position: u64,
     /// Repeats of the frame on its way.
     pub repeats: u32,
@@ -64,7 +81,7 @@ pub fn frame(
     bytes: &[u8],
     reply: &mut [u8],
 ) -> Result<Sent, Refusal> {
-    let (image, reply) = check(settings, *session, file, reply)?;
+    let (frames, reply) = check(settings, *session, file, reply)?;
     let frame = frame::read(bytes)?;
     Ok(match (session, frame) {
         (
@@ -80,14 +97,14 @@ pub fn frame(
                 repeats: 0,
                 sent: 0,
             };
-            let sent = progress.send(&image, reply);
+            let sent = progress.send(&frames, reply);
             *session = Session::Begun(progress);
             sent
         }
         (Session::Begun(progress), Frame::RequestLoad { number, error })
             if progress.verdict == Verdict::Running && number == progress.wanted_number() =>
         {
-            progress.answered(error, &image, reply)
+            progress.answered(error, &frames, reply)
         }
         _ => None,
     })
@@ -100,23 +117,23 @@ pub fn timer(
     file: &[u8],
     reply: &mut [u8],
 ) -> Result<Sent, Refusal> {
-    let (image, reply) = check(settings, *session, file, reply)?;
+    let (frames, reply) = check(settings, *session, file, reply)?;
     Ok(match session {
         Session::Begun(progress) if progress.verdict == Verdict::Running => {
-            progress.silence(settings.repeats, &image, reply)
+            progress.silence(settings.repeats, &frames, reply)
         }
         _ => None,
     })
 }
 
-/// The order is: settings and record, reply buffer, image, then what of the
-/// record needs N.
-fn check<'i, 'r>(
-    settings: Settings,
+/// The order is: settings and record, reply buffer, image, what of the record
+/// needs n, then the string.
+fn check<'l, 'r>(
+    settings: Settings<'l>,
     session: Session,
-    file: &'i [u8],
+    file: &'l [u8],
     reply: &'r mut [u8],
-) -> Result<(Image<'i>, Reply<'r>), Refusal> {
+) -> Result<(Frames<'l>, Reply<'r>), Refusal> {
     let repeats = match session {
         Session::Waiting => 0,
         Session::Begun(progress) => progress.repeats,
@@ -124,50 +141,65 @@ fn check<'i, 'r>(
     check_most(settings.segment_size, SEGMENT_MOST)?;
     check_repeats(settings.repeats, repeats)?;
     let reply = Reply::new(reply)?;
-    let image = image::check(file, settings.segment_size)?;
+    let frames = Frames {
+        image: image::check(file, settings.segment_size)?,
+        parameters: settings.parameters,
+    };
     if let Session::Begun(progress) = session {
-        good_record(progress.is_good(settings, image.segments()))?;
+        good_record(progress.is_good(settings.repeats, frames.count()))?;
     }
-    Ok((image, reply))
+    settings.parameters.map_or(Ok(()), check_string)?;
+    Ok((frames, reply))
+}
+
+/// Entries that break a rule come before a string that is too long.
+fn check_string(string: &[u8]) -> Result<(), Refusal> {
+    if !entries::are_good(string) {
+        return Err(OUTSIDE_LIST);
+    }
+    if string.len() > STRING_MOST {
+        return Err(TOO_LONG);
+    }
+    Ok(())
 }
 
 impl Progress {
-    /// What of a record needs N.
-    fn is_good(&self, settings: Settings, segments: u64) -> bool {
+    /// What of a record needs n, the number of frames.
+    fn is_good(&self, repeats: u32, frames: u64) -> bool {
         let finished = self.verdict == Verdict::Finished;
-        self.position <= segments
-            && self.sent <= segments * (u64::from(settings.repeats) + 1)
-            && finished == (self.position == segments)
+        self.position <= frames
+            && self.sent <= frames * (u64::from(repeats) + 1)
+            && finished == (self.position == frames)
     }
 
-    /// The number that answers segment c.
+    /// The number that answers frame c.
     fn wanted_number(&self) -> u8 {
         ((self.position + 1) % 256) as u8
     }
 
-    /// Segment c was answered.
-    fn answered(&mut self, error: u8, image: &Image, reply: Reply) -> Sent {
+    /// Frame c was answered.
+    fn answered(&mut self, error: u8, frames: &Frames, reply: Reply) -> Sent {
         if error != 0 {
             self.verdict = Verdict::Rejected;
             return None;
         }
         self.position += 1;
         self.repeats = 0;
-        if self.position == image.segments() {
+        if self.position == frames.count() {
             self.verdict = Verdict::Finished;
             return None;
         }
-        self.send(image, reply)
+        self.send(frames, reply)
     }
 
-    /// No answer came. Silence after the last segment is not a failure: the
+    /// No answer came. Silence after the last frame is not a failure: the
     /// machine may have started.
-    fn silence(&mut self, repeats: u32, image: &Image, reply: Reply) -> Sent {
+    fn silence(&mut self, repeats: u32, frames: &Frames, reply: Reply) -> Sent {
         if self.repeats < repeats {
             self.repeats += 1;
-            return self.send(image, reply);
+            return self.send(frames, reply);
         }
-        self.verdict = if self.position + 1 < image.segments() {
+        self.verdict = if self.position + 1 < frames.count() {
             Verdict::GivenUp
         } else {
             Verdict::Unconfirmed
@@ -175,30 +207,48 @@ impl Progress {
         None
     }
 
-    /// Sends segment c.
-    fn send(&mut self, image: &Image, reply: Reply) -> Sent {
+    /// Sends frame c.
+    fn send(&mut self, frames: &Frames, reply: Reply) -> Sent {
         self.sent += 1;
-        reply.send(&segment_frame(image, self.position))
+        reply.send(&frames.frame(self.position))
     }
 }
 
-/// A segment's frame: code 0 for the last, code 2 for the others.
-fn segment_frame<'a>(image: &Image<'a>, index: u64) -> Frame<'a> {
-    let segment = image.segment(index).expect("an index below N");
-    let number = (index % 256) as u8;
-    let (address, data) = (segment.address, segment.data);
-    if segment.last {
-        Frame::LoadTransfer {
-            number,
-            address,
-            data,
-            transfer: image.transfer(),
-        }
-    } else {
-        Frame::Load {
-            number,
-            address,
-            data,
+/// The frames of a load.
+struct Frames<'a> {
+    image: Image<'a>,
+    parameters: Option<&'a [u8]>,
+}
+
+impl<'a> Frames<'a> {
+    /// n, a frame for each segment and one for the parameters.
+    fn count(&self) -> u64 {
+        self.image.segments() + u64::from(self.parameters.is_some())
+    }
+
+    /// Frame number `index`, counted from 0. The last one has the transfer
+    /// address: code 20 with the parameters, or else the last segment as code
+    /// 0. All others are code 2.
+    fn frame(&self, index: u64) -> Frame<'a> {
+        let number = (index % 256) as u8;
+        let transfer = self.image.transfer();
+        match (self.image.segment(index), self.parameters) {
+            (Some(segment), None) if segment.last => Frame::LoadTransfer {
+                number,
+                address: segment.address,
+                data: segment.data,
+                transfer,
+            },
+            (Some(segment), _) => Frame::Load {
+                number,
+                address: segment.address,
+                data: segment.data,
+            },
+            (None, entries) => Frame::Parameters {
+                number,
+                entries: entries.expect("an index below n"),
+                transfer,
+            },
         }
     }
 }

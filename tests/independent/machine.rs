@@ -1,6 +1,7 @@
 //! The machine end (PROTOCOL 4, "Machine end"). Its memory is a slice, address
 //! 0 first.
 
+use crate::entries::Kept;
 use crate::frame::{self, Frame};
 use crate::refusal::{BAD_RECORD, BAD_SETTING, Refusal};
 use crate::step::{Reply, Sent, check_most};
@@ -40,6 +41,24 @@ pub enum State {
     },
 }
 
+/// The machine's record.
+#[derive(Clone, Copy, Debug, PartialEq, Eq)]
+pub struct Machine {
+    pub state: State,
+    /// What the last code 20 that was taken said.
+    pub kept: Kept,
+}
+
+impl Machine {
+    /// One that keeps nothing.
+    pub fn fresh(state: State) -> Machine {
+        Machine {
+            state,
+            kept: Kept::default(),
+        }
+    }
+}
+
 impl State {
     /// A state from its number and what it keeps; numbers that it does not
     /// keep are dropped.
@@ -60,44 +79,45 @@ impl State {
     }
 }
 
-/// Starts a load: the fresh state and its first frame.
+/// Starts a load: the fresh record and its first frame.
 pub fn start_load(
     settings: Settings,
     memory: &[u8],
     reply: &mut [u8],
-) -> Result<(State, Sent), Refusal> {
+) -> Result<(Machine, Sent), Refusal> {
     start(State::Requesting, settings, memory, reply)
 }
 
-/// Starts a dump: the fresh state and its first frame.
+/// Starts a dump: the fresh record and its first frame.
 pub fn start_dump(
     settings: Settings,
     memory: &[u8],
     reply: &mut [u8],
-) -> Result<(State, Sent), Refusal> {
+) -> Result<(Machine, Sent), Refusal> {
     start(State::Offering, settings, memory, reply)
 }
 
 fn start(
-    fresh: State,
+    state: State,
     settings: Settings,
     memory: &[u8],
     reply: &mut [u8],
-) -> Result<(State, Sent), Refusal> {
-    let sent = timer(settings, fresh, memory, reply)?;
+) -> Result<(Machine, Sent), Refusal> {
+    let fresh = Machine::fresh(state);
+    let sent = timer(settings, &fresh, memory, reply)?;
     Ok((fresh, sent))
 }
 
-/// A timer asks again for a program or a dump, and changes no state.
+/// A timer asks again for a program or a dump, and changes nothing.
 pub fn timer(
     settings: Settings,
-    state: State,
+    machine: &Machine,
     memory: &[u8],
     reply: &mut [u8],
 ) -> Result<Sent, Refusal> {
     check(settings, memory)?;
     let reply = Reply::new(reply)?;
-    Ok(match state {
+    Ok(match machine.state {
         State::Requesting => reply.send(&Frame::RequestProgram {
             device: settings.device,
             format: FORMAT,
@@ -121,7 +141,7 @@ pub fn timer(
 /// A frame has come.
 pub fn frame(
     settings: Settings,
-    state: &mut State,
+    machine: &mut Machine,
     bytes: &[u8],
     memory: &mut [u8],
     reply: &mut [u8],
@@ -129,6 +149,7 @@ pub fn frame(
     check(settings, memory)?;
     let reply = Reply::new(reply)?;
     let frame = frame::read(bytes)?;
+    let state = &mut machine.state;
     Ok(match frame {
         Frame::Load {
             number,
@@ -141,6 +162,11 @@ pub fn frame(
             data,
             transfer,
         } => load(state, number, address, data, Some(transfer), memory, reply),
+        Frame::Parameters {
+            number,
+            entries,
+            transfer,
+        } => parameters(machine, number, entries, transfer, reply),
         Frame::RequestDump { address, count } if matches!(state, State::Idle | State::Offering) => {
             let length = settings.dump_most.min(count.into()) as usize;
             dump(address, length, memory, reply)
@@ -190,7 +216,28 @@ fn load(
     }
 }
 
-/// What a load's number means to a state.
+/// Code 20: its entries are kept, and the machine starts.
+fn parameters(
+    machine: &mut Machine,
+    number: u8,
+    entries: &[u8],
+    transfer: u32,
+    reply: Reply,
+) -> Sent {
+    match judge(machine.state, number) {
+        Number::Taken => {
+            *machine = Machine {
+                state: State::Started { transfer },
+                kept: Kept::of(entries),
+            };
+            acknowledge(number.wrapping_add(1), 0, reply)
+        }
+        Number::Repeated { expected, error } => acknowledge(expected, error, reply),
+        Number::Ignored => None,
+    }
+}
+
+/// What the number of a code 0, 2 or 20 means to a state.
 enum Number {
     Taken,
     /// The one before the expected: the last reply goes out again.

@@ -5,7 +5,8 @@ pub type Refusal = u8;
 
 /// The frame is empty or ends too early.
 pub const TOO_SHORT: Refusal = 1;
-/// Bytes are left over, or the frame has more than 1,500.
+/// Bytes are left over, or the frame has more than 1,500; or it would have
+/// with the parameter string of a load.
 pub const TOO_LONG: Refusal = 2;
 /// The code is not listed.
 pub const UNKNOWN_CODE: Refusal = 3;

@@ -9,7 +9,7 @@ use std::collections::VecDeque;
 use crate::frame::LONGEST;
 use crate::image::{self, SEGMENT_MOST};
 use crate::load::{self, Session};
-use crate::machine::{self, State};
+use crate::machine::{self, Machine, State};
 use crate::refusal::{MALFORMED, Refusal};
 use crate::step::{REPEATS_MOST, Sent, Verdict};
 
@@ -103,7 +103,7 @@ impl Event {
 /// An input of the right form. Its image is not checked yet.
 struct Input {
     memory_length: usize,
-    settings: load::Settings,
+    settings: load::Settings<'static>,
     file: Vec<u8>,
     events: Vec<Event>,
 }
@@ -120,6 +120,7 @@ impl Input {
             settings: load::Settings {
                 segment_size: decimal(segment_size, 1, SEGMENT_MOST)?,
                 repeats: decimal(repeats, 0, REPEATS_MOST)?,
+                parameters: None,
             },
             file: hexadecimal(image)?,
             events: (events.iter())
@@ -199,10 +200,10 @@ impl Queue {
 
 /// Both ends, as the events have left them.
 struct Stage<'a> {
-    settings: load::Settings,
+    settings: load::Settings<'static>,
     file: &'a [u8],
     session: Session,
-    state: State,
+    machine: Machine,
     memory: Vec<u8>,
     from_host: Queue,
     from_machine: Queue,
@@ -215,7 +216,7 @@ impl<'a> Stage<'a> {
             settings: input.settings,
             file: &input.file,
             session: Session::Waiting,
-            state: State::Requesting,
+            machine: Machine::fresh(State::Requesting),
             memory: vec![0; input.memory_length],
             from_host: Queue::default(),
             from_machine: Queue::default(),
@@ -226,8 +227,8 @@ impl<'a> Stage<'a> {
     /// The machine's first frame.
     fn start(&mut self) -> Result<(), Refusal> {
         let mut reply = [0; LONGEST];
-        let (state, sent) = machine::start_load(MACHINE, &self.memory, &mut reply)?;
-        self.state = state;
+        let (machine, sent) = machine::start_load(MACHINE, &self.memory, &mut reply)?;
+        self.machine = machine;
         self.sent(Side::Machine, sent, &reply);
         Ok(())
     }
@@ -265,7 +266,7 @@ impl<'a> Stage<'a> {
         match from {
             Side::Host => {
                 let memory = &mut self.memory;
-                let sent = machine::frame(MACHINE, &mut self.state, frame, memory, &mut reply)?;
+                let sent = machine::frame(MACHINE, &mut self.machine, frame, memory, &mut reply)?;
                 self.sent(Side::Machine, sent, &reply);
             }
             Side::Machine => {
@@ -281,7 +282,7 @@ impl<'a> Stage<'a> {
         let mut reply = [0; LONGEST];
         let sent = match of {
             Side::Host => load::timer(self.settings, &mut self.session, self.file, &mut reply)?,
-            Side::Machine => machine::timer(MACHINE, self.state, &self.memory, &mut reply)?,
+            Side::Machine => machine::timer(MACHINE, &self.machine, &self.memory, &mut reply)?,
         };
         self.sent(of, sent, &reply);
         Ok(())
@@ -307,7 +308,7 @@ impl<'a> Stage<'a> {
             Session::Waiting => (Verdict::Running, 0),
             Session::Begun(progress) => (progress.verdict, progress.sent),
         };
-        let transfer = match self.state {
+        let transfer = match self.machine.state {
             State::Started { transfer } => format!("{transfer:08X}"),
             _ => "-".to_string(),
         };

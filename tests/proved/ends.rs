@@ -11,6 +11,25 @@ pub struct MachineSettings {
     pub processor: u8,
 }
 
+/// `mop_value`
+#[repr(C)]
+#[derive(Clone, Copy, Debug, Default, PartialEq, Eq)]
+pub struct Value {
+    pub length: u8,
+    pub bytes: [u8; 16],
+}
+
+/// `mop_parameters`
+#[repr(C)]
+#[derive(Clone, Copy, Debug, Default, PartialEq, Eq)]
+pub struct Parameters {
+    pub target_name: Value,
+    pub target_address: Value,
+    pub host_name: Value,
+    pub host_address: Value,
+    pub host_time: Value,
+}
+
 /// `mop_machine`
 #[repr(C)]
 #[derive(Clone, Copy, Debug, Default, PartialEq, Eq)]
@@ -19,6 +38,7 @@ pub struct Machine {
     pub state: u8,
     pub expected: u8,
     pub error: u8,
+    pub parameters: Parameters,
 }
 
 /// `mop_load_settings`
@@ -27,6 +47,7 @@ pub struct Machine {
 pub struct LoadSettings {
     pub segment_size: u32,
     pub repeats: u32,
+    pub with_parameters: u8,
 }
 
 /// `mop_load`
@@ -109,6 +130,8 @@ unsafe extern "C" {
         session: Load,
         file: *const u8,
         file_length: usize,
+        parameters: *const u8,
+        parameters_length: usize,
         frame: *const u8,
         frame_length: usize,
         reply: *mut u8,
@@ -119,6 +142,8 @@ unsafe extern "C" {
         session: Load,
         file: *const u8,
         file_length: usize,
+        parameters: *const u8,
+        parameters_length: usize,
         reply: *mut u8,
         reply_length: usize,
     ) -> Step<Load>;
@@ -146,6 +171,8 @@ unsafe extern "C" {
         session: *mut Load,
         file: *const u8,
         file_length: usize,
+        parameters: *const u8,
+        parameters_length: usize,
         frame: *const u8,
         frame_length: usize,
         reply: *mut u8,
@@ -156,6 +183,8 @@ unsafe extern "C" {
         session: *mut Load,
         file: *const u8,
         file_length: usize,
+        parameters: *const u8,
+        parameters_length: usize,
         reply: *mut u8,
         reply_length: usize,
     ) -> Written;
@@ -240,16 +269,20 @@ pub fn load_frame(
     settings: LoadSettings,
     session: Load,
     file: &[u8],
+    parameters: &[u8],
     frame: &[u8],
     reply: &mut [u8],
 ) -> Step<Load> {
-    let (image, from, to) = (input(file), input(frame), output(reply));
+    let (image, string) = (input(file), input(parameters));
+    let (from, to) = (input(frame), output(reply));
     unsafe {
         mop_load_frame(
             settings,
             session,
             image,
             file.len(),
+            string,
+            parameters.len(),
             from,
             frame.len(),
             to,
@@ -262,26 +295,42 @@ pub fn load_timer(
     settings: LoadSettings,
     session: Load,
     file: &[u8],
+    parameters: &[u8],
     reply: &mut [u8],
 ) -> Step<Load> {
-    let (image, to) = (input(file), output(reply));
-    unsafe { mop_load_timer(settings, session, image, file.len(), to, reply.len()) }
+    let (image, string, to) = (input(file), input(parameters), output(reply));
+    unsafe {
+        mop_load_timer(
+            settings,
+            session,
+            image,
+            file.len(),
+            string,
+            parameters.len(),
+            to,
+            reply.len(),
+        )
+    }
 }
 
 pub fn load_update_frame(
     settings: LoadSettings,
     session: &mut Load,
     file: &[u8],
+    parameters: &[u8],
     frame: &[u8],
     reply: &mut [u8],
 ) -> Written {
-    let (image, from, to) = (input(file), input(frame), output(reply));
+    let (image, string) = (input(file), input(parameters));
+    let (from, to) = (input(frame), output(reply));
     unsafe {
         mop_load_update_frame(
             settings,
             session,
             image,
             file.len(),
+            string,
+            parameters.len(),
             from,
             frame.len(),
             to,
@@ -294,10 +343,22 @@ pub fn load_update_timer(
     settings: LoadSettings,
     session: &mut Load,
     file: &[u8],
+    parameters: &[u8],
     reply: &mut [u8],
 ) -> Written {
-    let (image, to) = (input(file), output(reply));
-    unsafe { mop_load_update_timer(settings, session, image, file.len(), to, reply.len()) }
+    let (image, string, to) = (input(file), input(parameters), output(reply));
+    unsafe {
+        mop_load_update_timer(
+            settings,
+            session,
+            image,
+            file.len(),
+            string,
+            parameters.len(),
+            to,
+            reply.len(),
+        )
+    }
 }
 
 pub fn dump_start() -> Dump {

@@ -47,9 +47,11 @@ layout! {
     mop_image = Image { segments, transfer, regions, refusal }
     mop_segment = Segment { at, length, address, last, refusal }
     mop_machine_settings = MachineSettings { reply_bytes, device, processor }
-    mop_machine = Machine { transfer, state, expected, error }
+    mop_value = Value { length, bytes }
+    mop_parameters = Parameters { target_name, target_address, host_name, host_address, host_time }
+    mop_machine = Machine { transfer, state, expected, error, parameters }
     mop_machine_step = Step<Machine> { record machine, answer }
-    mop_load_settings = LoadSettings { segment_size, repeats }
+    mop_load_settings = LoadSettings { segment_size, repeats, with_parameters }
     mop_load = Load { position, sent, repeats, waiting, verdict }
     mop_load_step = Step<Load> { record session, answer }
     mop_dump_settings = DumpSettings { length, address, request_bytes, repeats }

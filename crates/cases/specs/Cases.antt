@@ -15,6 +15,7 @@ use Rattle.step.specs.Step.{Outcome, first}
 use Rattle.directory.specs.Directory.{trailerOf, entryOf, entries, demand, entriesRefusal, refusal, regions}
 use Rattle.image.specs.Image.{many}
 use Rattle.machine_record.specs.declared.Machine.{Machine}
+use Rattle.parameters.specs.Parameters.{none}
 use Rattle.machine_record.specs.Record.{idle, loading}
 use Rattle.machine_next.specs.Next.{byNumber, onLoad}
 use Rattle.machine.specs.Machine.{machineFrame}
@@ -60,21 +61,21 @@ pub record Cases : Type 0 where
   pub K6 : refusal (image 0xFFFFFFFF 1 (7 ∷ []) 29) ≡ 0
   pub K6-beyond : refusal (image 0xFFFFFFFF 2 (7 ∷ 7 ∷ []) 30) ≡ 7
   -- two bytes at 6 fit; at 7 nothing is written, error 1
-  pub K7 : step idle (0x02 ∷ 0x00 ∷ 0x06 ∷ 0x00 ∷ 0x00 ∷ 0x00 ∷ 0xAA ∷ 0xBB ∷ [])
-      ≡ seen (loading 1 0) (1 ∷ 2 ∷ 3 ∷ 4 ∷ 5 ∷ 6 ∷ 0xAA ∷ 0xBB ∷ []) (0x0A ∷ 0x01 ∷ 0x00 ∷ [])
-  pub K7-beyond : step idle (0x02 ∷ 0x00 ∷ 0x07 ∷ 0x00 ∷ 0x00 ∷ 0x00 ∷ 0xAA ∷ 0xBB ∷ []) ≡ seen (loading 1 1) memory (0x0A ∷ 0x01 ∷ 0x01 ∷ [])
+  pub K7 : step (idle none) (0x02 ∷ 0x00 ∷ 0x06 ∷ 0x00 ∷ 0x00 ∷ 0x00 ∷ 0xAA ∷ 0xBB ∷ [])
+      ≡ seen (loading none 1 0) (1 ∷ 2 ∷ 3 ∷ 4 ∷ 5 ∷ 6 ∷ 0xAA ∷ 0xBB ∷ []) (0x0A ∷ 0x01 ∷ 0x00 ∷ [])
+  pub K7-beyond : step (idle none) (0x02 ∷ 0x00 ∷ 0x07 ∷ 0x00 ∷ 0x00 ∷ 0x00 ∷ 0xAA ∷ 0xBB ∷ []) ≡ seen (loading none 1 1) memory (0x0A ∷ 0x01 ∷ 0x01 ∷ [])
   -- number 0 is taken where 1 is expected
-  pub K8 : step (loading 1 0) (0x02 ∷ 0x00 ∷ 0x02 ∷ 0x00 ∷ 0x00 ∷ 0x00 ∷ 0xAA ∷ [])
-      ≡ seen (loading 1 0) (1 ∷ 2 ∷ 0xAA ∷ 4 ∷ 5 ∷ 6 ∷ 7 ∷ 8 ∷ []) (0x0A ∷ 0x01 ∷ 0x00 ∷ [])
+  pub K8 : step (loading none 1 0) (0x02 ∷ 0x00 ∷ 0x02 ∷ 0x00 ∷ 0x00 ∷ 0x00 ∷ 0xAA ∷ [])
+      ≡ seen (loading none 1 0) (1 ∷ 2 ∷ 0xAA ∷ 4 ∷ 5 ∷ 6 ∷ 7 ∷ 8 ∷ []) (0x0A ∷ 0x01 ∷ 0x00 ∷ [])
   -- after 255 comes 0
-  pub K9 : step (loading 255 0) (0x02 ∷ 0xFF ∷ 0x02 ∷ 0x00 ∷ 0x00 ∷ 0x00 ∷ 0xAA ∷ [])
-      ≡ seen (loading 0 0) (1 ∷ 2 ∷ 0xAA ∷ 4 ∷ 5 ∷ 6 ∷ 7 ∷ 8 ∷ []) (0x0A ∷ 0x00 ∷ 0x00 ∷ [])
+  pub K9 : step (loading none 255 0) (0x02 ∷ 0xFF ∷ 0x02 ∷ 0x00 ∷ 0x00 ∷ 0x00 ∷ 0xAA ∷ [])
+      ≡ seen (loading none 0 0) (1 ∷ 2 ∷ 0xAA ∷ 4 ∷ 5 ∷ 6 ∷ 7 ∷ 8 ∷ []) (0x0A ∷ 0x00 ∷ 0x00 ∷ [])
   pub K10 : many 2 (regions (image 0 3 (7 ∷ 7 ∷ 7 ∷ []) 31)) ≡ 2
   pub K11 : read (hostTime 0 226) ≡ message (parameters 0 (5 ∷ 10 ∷ 19 ∷ 83 ∷ 1 ∷ 1 ∷ 0 ∷ 0 ∷ 0 ∷ 0 ∷ 0 ∷ 226 ∷ []) 0)
   pub K11-opposite : read (hostTime 1 226) ≡ refused 4
   -- two memory bytes, two zeros
-  pub K12 : step idle (0x04 ∷ 0x06 ∷ 0x00 ∷ 0x00 ∷ 0x00 ∷ 0x04 ∷ 0x00 ∷ [])
-      ≡ seen idle memory (0x0E ∷ 0x06 ∷ 0x00 ∷ 0x00 ∷ 0x00 ∷ 7 ∷ 8 ∷ 0 ∷ 0 ∷ [])
+  pub K12 : step (idle none) (0x04 ∷ 0x06 ∷ 0x00 ∷ 0x00 ∷ 0x00 ∷ 0x04 ∷ 0x00 ∷ [])
+      ≡ seen (idle none) memory (0x0E ∷ 0x06 ∷ 0x00 ∷ 0x00 ∷ 0x00 ∷ 7 ∷ 8 ∷ 0 ∷ 0 ∷ [])
 
 pub cases : Cases
 unfolding number low find fields read layout first fits bytesFrom byNumber onLoad next walk field trailerOf entryOf entries demand entriesRefusal many image hostTime step

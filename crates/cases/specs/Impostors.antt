@@ -9,6 +9,8 @@ use lib.ListN.{length, take, getD, replicate}
 use lib.Dec.{eqb}
 use Rattle.octets.specs.Number.{number, low}
 use Rattle.buffer.specs.Lay.{over}
+use Rattle.entries_next.specs.Next.{next}
+use Rattle.entries.specs.Entries.{walk}
 use Rattle.memory.specs.Memory.{fits, bytesFrom}
 use Rattle.message.specs.Message.{dumpData}
 use Rattle.message.specs.Read.{find, fields, part}
@@ -16,7 +18,10 @@ use Rattle.message.specs.Write.{layout}
 use Rattle.step.specs.Step.{first, sends}
 use Rattle.directory.specs.Directory.{trailerOf, entryOf, entries, demand, entriesRefusal}
 use Rattle.image.specs.Image.{many, segment}
-use Rattle.machine_next.specs.Next.{byNumber, onLoad}
+use Rattle.parameters.specs.Parameters.{latest, none}
+use Rattle.machine_record.specs.declared.Machine.{Machine}
+use Rattle.machine_record.specs.Record.{keeping}
+use Rattle.machine_next.specs.Next.{byNumber, onLoad, onParameters}
 use Rattle.load_record.specs.declared.Session.{Session}
 use Rattle.load.specs.Load.{raised}
 use Rattle.link.specs.Link.{Frame, Turn, refuses, acts, queued, Ends, World, Event, own, handToMachine, handToHost, withToHost, run}
@@ -27,6 +32,7 @@ use Rattle.link_load.specs.Report.{Report}
 use Rattle.link_dump.specs.Model as dump
 use Rattle.link_dump.specs.Model.{Host, hostEnd, dumpEnds, Dumped}
 use Rattle.cases.specs.LoadExample as loaded
+use Rattle.cases.specs.ParametersExample as given
 use Rattle.cases.specs.DumpExample as dumped
 
 abbrev reply : List ℕ
@@ -38,7 +44,7 @@ whole = own (handToHost reply) ∷ own (handToMachine reply) ∷ own (handToHost
 
 -- ---- a load: segment 0 is 0A0B at 2, segment 1 is 0C at 4
 abbrev ours : Ends Session End ⊥
-ours = loadEnds loaded.loadSettings loaded.machineSettings loaded.image
+ours = loadEnds loaded.loadSettings loaded.machineSettings loaded.image []
 
 -- our ends, but for what one of them makes of a frame
 abbrev withHost : (Session → Frame → List ℕ → Turn Session) → Ends Session End ⊥
@@ -52,7 +58,7 @@ withMachine frame =
 -- the claim, after a list of events from fresh ends with so many bytes of memory
 abbrev Claim : Ends Session End ⊥ → ℕ → List (Event ⊥) → Type 0
 Claim ends n es =
-    Report loaded.loadSettings loaded.image (replicate n 0) (run ends (load.freshWorld loaded.machineSettings (replicate n 0)) es)
+    Report loaded.loadSettings loaded.image [] (replicate n 0) (run ends (load.freshWorld loaded.machineSettings (replicate n 0)) es)
 
 -- A machine that stores segment 0 and merely acknowledges the others: it leaves memory as it was.
 abbrev leaves : List ℕ → Turn End → Turn End
@@ -101,6 +107,26 @@ inventive = withHost (λ h f b. more (ours .hostFrame h f b))
 pub invented-count : Claim inventive 8 (take 1 whole) → ⊥
 unfolding run loaded.image number low find fields layout first trailerOf entryOf entries demand entriesRefusal many segment
 invented-count r = let z = r .counted in omega arith
+
+-- A machine that acknowledges the parameters and keeps none of them: it starts, and its record is as it was.
+abbrev unkept : Turn End → Turn End
+unkept refuses = refuses
+unkept (acts e out) = acts (machineEnd (keeping (e .machine) none) (e .memory)) out
+
+abbrev forgets : Ends Session End ⊥
+forgets =
+    let ends : Ends Session End ⊥ = loadEnds given.loadSettings loaded.machineSettings loaded.image given.string in
+    record {
+      hostFrame = ends .hostFrame;
+      hostTimer = ends .hostTimer;
+      machineFrame = λ e f b. unkept (ends .machineFrame e f b);
+      machineTimer = ends .machineTimer;
+      further = ends .further;
+    }
+
+pub keeps-none : Report given.loadSettings loaded.image given.string (replicate 8 0) (run forgets (load.freshWorld loaded.machineSettings (replicate 8 0)) given.events) → ⊥
+unfolding run loaded.image given.string given.events number low find fields layout first trailerOf entryOf entries demand entriesRefusal many segment fits byNumber onLoad onParameters latest walk next
+keeps-none r = let z = ap (λ (m : Machine). m .parameters .«target_name» .length) (r .finished refl .started refl) in omega arith
 
 -- ---- a dump of 3 bytes from address 1 of the memory 7, 8, 9, at most 2 at a time, into the buffer 5, 5, 5
 abbrev memory : List ℕ

@@ -1,4 +1,5 @@
 pub mod Cases
 pub mod LoadExample
+pub mod ParametersExample
 pub mod DumpExample
 pub mod Impostors

@@ -1,7 +1,7 @@
--- The host's turns in a rehearsal (PROTOCOL 8, 'Rehearsal').
+-- The host's turns in a rehearsal (PROTOCOL 8, 'Rehearsal'), which has no parameter string.
 use Prim.Native.Nat.{ℕ}
 use mathlib.Core.Bool.{Bool, cond as pick}
-use mathlib.Core.List.{List}
+use mathlib.Core.List.{List, []}
 use Rattle.step.specs.Step.{Outcome}
 use Rattle.load_record.specs.declared.Settings.{Settings}
 use Rattle.load_record.specs.declared.Session.{Session}
@@ -15,10 +15,10 @@ module _ (s : Settings) (file : List ℕ) (w : Run) where
   abbrev pub hostHanded : Outcome Session Unit
   hostHanded =
       onFirst (first (w .ends .«from_machine») (w .machinePlaces)) (w .ends .session) tt (w .reply)
-      (loadFrame s (w .ends .session) file (first (w .ends .«from_machine») (w .machinePlaces)) (w .reply))
+      (loadFrame s (w .ends .session) file [] (first (w .ends .«from_machine») (w .machinePlaces)) (w .reply))
 
   abbrev pub hostTimed : Outcome Session Unit
-  hostTimed = loadTimer s (w .ends .session) file (w .reply)
+  hostTimed = loadTimer s (w .ends .session) file [] (w .reply)
 
   -- its timer, or the first frame
   abbrev pub hostTurn : Bool → Step

@@ -41,7 +41,8 @@ fn on_frame(
     if frame.len() == 0 {
         return Moved { ends, sent: 0 };
     }
-    let stepped = load::frame(settings, ends.session, file, frame, reply);
+    let none = [0u8; 0];
+    let stepped = load::frame(settings, ends.session, file, &none, frame, reply);
     send(ends, stepped, reply, places)
 }
 
@@ -57,7 +58,8 @@ fn on_timer(
         (hostTimed settings (now (file .entry)) (run ends memory (now (places .entry)) machines (now (reply .entry)))))
         (r .ends) (r .sent) memory (now (places .exit)) machines (now (reply .exit))) ⌝ }
 {
-    let stepped = load::timer(settings, ends.session, file, reply);
+    let none = [0u8; 0];
+    let stepped = load::timer(settings, ends.session, file, &none, reply);
     send(ends, stepped, reply, places)
 }
 

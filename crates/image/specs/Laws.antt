@@ -49,6 +49,13 @@ segment-cases P S r rs i here beyond = go (ltb i (parts S r)) refl
     go true e = here (ltb-true i (parts S r) e)
     go false e = beyond (ltb-false i (parts S r) e)
 
+-- there is no segment past the last
+pub segment-none : (S : ℕ) (rs : List Region) (i : ℕ) → many S rs ≤ i → segment S rs i ≡ nowhere
+unfolding many segment
+segment-none S [] i h = refl
+segment-none S (r ∷ rs) i h =
+    segment-beyond S r rs i (omega arith) ∙ segment-none S rs (i - parts S r) (omega arith)
+
 -- regions that share no address have no more segments than there are addresses
 pub many-bound : (S directory end : ℕ) (rs : List Region)
     → 1 ≤ S → entriesRefusal directory end rs ≡ 0 → end ≤ addresses → end + many S rs ≤ addresses

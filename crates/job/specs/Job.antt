@@ -12,11 +12,11 @@ use Rattle.script.specs.Script.{checked}
 use Rattle.job.specs.declared.Setup.{Setup}
 use Rattle.job.specs.declared.Job.{Job}
 
--- the settings of both ends; device and processor are 0, and D plays no part in a load
+-- the settings of both ends: there is no parameter string, device and processor are 0, and D plays no part in a load
 abbrev pub setup : Script → Setup
 setup t =
     record {
-      host = record { «segment_size» = t .«segment_size»; repeats = t .repeats };
+      host = record { «segment_size» = t .«segment_size»; repeats = t .repeats; «with_parameters» = 0 };
       machine = record { «reply_bytes» = 1495; device = 0; processor = 0 };
     }
 

@@ -41,7 +41,7 @@ pub struct Moved {
     pub sent: usize,
 }
 
-// The settings of both ends. The machine's dump setting plays no part in a load.
+// The settings of both ends: without a parameter string. The machine's dump setting plays no part in a load.
 fn prepare(script: Script) -> Setup
     ensures { λ r. ⌜ r ≡ setup script ⌝ }
 {
@@ -49,6 +49,7 @@ fn prepare(script: Script) -> Setup
         host: load_record::Settings {
             segment_size: script.segment_size,
             repeats: script.repeats,
+            with_parameters: 0,
         },
         machine: machine_record::Settings {
             reply_bytes: 1495,
@@ -92,7 +93,7 @@ pub fn fresh() -> Ends
 {
     Ends {
         session: load_record::start(),
-        machine: machine_record::in_state(2, 0, 0, 0),
+        machine: machine_record::in_state(2, 0, 0, 0, parameters::none()),
         from_host: queue::empty(),
         from_machine: queue::empty(),
     }

@@ -79,17 +79,17 @@ module _ (N R : ℕ) (F : ℕ → Frame) where
 now : {w v : ℕ} (x : Session) → x .waiting ≡ w → x .verdict ≡ v → Now x w (x .position) (x .repeats) v (x .sent)
 now x w v = record { waiting = w; position = refl; repeats = refl; verdict = v; sent = refl }
 
-module _ (s : Settings) (file : List ℕ) where
+module _ (s : Settings) (file string : List ℕ) where
   abbrev pub N : ℕ
-  N = load-checks.frames file (s .«segment_size»)
+  N = load-checks.frames s file
 
   abbrev pub F : ℕ → Frame
-  F i = layout (load.segmentMessage file (s .«segment_size») i)
+  F i = layout (load.frameMessage s file string i)
 
   module _ (h : Session) where
     -- what is done next, as the link sees it
     abbrev does : Next → Turn Session
-    does n = acts (load.counted n) (queued (load.does file (s .«segment_size») n .sending))
+    does n = acts (load.counted n) (queued (load.does s file string n .sending))
 
     module _ (f : Frame) where
       abbrev OnFrame : Next → Type 0
@@ -120,10 +120,10 @@ module _ (s : Settings) (file : List ℕ) where
           by-cases OnFrame (eqb (fields f .code) 8) (λ _. on-request (eqb-true _ _ v)) (λ _.
           by-cases OnFrame (eqb (fields f .code) 10) (λ c. on-answer (eqb-true _ _ c) (eqb-true _ _ v)) (λ _. same))) (λ _. same)
 
-      pub heard : (b : List ℕ) → Heard N (s .repeats) F h f (turned hostEnd (load.loadFrame s h file f b))
+      pub heard : (b : List ℕ) → Heard N (s .repeats) F h f (turned hostEnd (load.loadFrame s h file string f b))
       heard b =
           came (Heard N (s .repeats) F h f) _ _ _
-          (called hostEnd (first (load-checks.refusal s h file b ∷ fields f .refusal ∷ [])) h tt b (load.does file (s .«segment_size») (next.react N h (fields f)))) refused on-fields
+          (called hostEnd (first (load-checks.refusal s h file string b ∷ fields f .refusal ∷ [])) h tt b (load.does s file string (next.react N h (fields f)))) refused on-fields
 
     abbrev OnTimer : Next → Type 0
     OnTimer n = Timed N (s .repeats) F h (does n)
@@ -143,7 +143,7 @@ module _ (s : Settings) (file : List ℕ) where
         by-cases OnTimer (ltb (h .repeats) (s .repeats)) (λ r. repeats _ z (ltb-true _ _ r) (now _ (z .0) (z .1)))
         (λ r. ends z (ltb-false _ _ r) (load-record.more N h) refl)) (λ _. idle)) (λ _. idle)
 
-    pub timed : (b : List ℕ) → Timed N (s .repeats) F h (turned hostEnd (load.loadTimer s h file b))
+    pub timed : (b : List ℕ) → Timed N (s .repeats) F h (turned hostEnd (load.loadTimer s h file string b))
     timed b =
         came (Timed N (s .repeats) F h) _ _ _
-        (called hostEnd (load-checks.refusal s h file b) h tt b (load.does file (s .«segment_size») (load-timer.onTimer N (s .repeats) h))) refused on-timer
+        (called hostEnd (load-checks.refusal s h file string b) h tt b (load.does s file string (load-timer.onTimer N (s .repeats) h))) refused on-timer

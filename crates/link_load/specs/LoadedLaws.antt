@@ -13,19 +13,25 @@ use Rattle.image.specs.Laws.{ready}
 use Rattle.directory.specs.Laws.{region-fit}
 use Rattle.image.specs.PartsLaws.{length-bytes}
 use Rattle.load_record.specs.declared.Settings.{Settings}
+use Rattle.load_checks.specs.Checks.{frames}
+use Rattle.load_checks.specs.Laws.{frames-few}
 use Rattle.link.specs.MachineEnd.{End}
 use Rattle.link.specs.ByteLaws.{is-there, same-byte}
-use Rattle.link_load.specs.Model.{laidOver, FirstIn}
+use Rattle.link_load.specs.Model.{laidOver, segments, FirstIn}
 use Rattle.link_load.specs.Report.{Loaded}
 use Rattle.link_load.specs.RegionsLaws.{segmentsOver, regionsOver, SegmentsFit, AllFit, all-fit, fits-at, segments-regions, regions-size, inside-region, outside-regions, stretch, there}
 
-module _ (s : Settings) (file old : List ℕ) (ok : cutRefusal file (s .«segment_size») ≡ 0) where
+module _ (s : Settings) (file string old : List ℕ) (ok : cutRefusal file (s .«segment_size») ≡ 0) where
   over-segments : (k : ℕ) → laidOver file (s .«segment_size») old k ≡ segmentsOver file (s .«segment_size») (regions file) k old
   unfolding laidOver segmentsOver
   over-segments zero = refl
   over-segments (suc k) = rw (over-segments k)
 
-  module _ (e : End) (i : FirstIn file (s .«segment_size») old (many (s .«segment_size») (regions file)) e) where
+  -- n frames hold all segments
+  all-segments : segments s file string old (frames s file) ≡ many (s .«segment_size») (regions file)
+  all-segments = omega (arith, frames-few s (many (s .«segment_size») (regions file)) .0)
+
+  module _ (e : End) (i : FirstIn s file string old (frames s file) e) where
     abbrev directory : ℕ
     directory = trailer file .directory
 
@@ -39,14 +45,14 @@ module _ (s : Settings) (file old : List ℕ) (ok : cutRefusal file (s .«segmen
     before = omega (arith, ready file (s .«segment_size») ok .whole)
 
     segments-fit : SegmentsFit file (s .«segment_size») (regions file) (length old)
-    segments-fit j l = fits-inside _ _ _ (i .fitting j l)
+    segments-fit j l = fits-inside _ _ _ (i .fitting j (omega (arith, all-segments)))
 
     all : AllFit file (s .«segment_size») (regions file) (length old)
     all = all-fit file (s .«segment_size») directory some before 0 (regions file) (length old) entries segments-fit
 
     memory-is : e .memory ≡ regionsOver file (s .«segment_size») (regions file) old
     memory-is =
-        i .memory-is ∙ over-segments (many (s .«segment_size») (regions file))
+        i .memory-is ∙ (rw all-segments) ∙ over-segments (many (s .«segment_size») (regions file))
         ∙ segments-regions file (s .«segment_size») directory some before 0 (regions file) old entries segments-fit
 
     size : length (e .memory) ≡ length old
@@ -68,7 +74,7 @@ module _ (s : Settings) (file old : List ℕ) (ok : cutRefusal file (s .«segmen
           (stretch (e .memory) (bytes file region) (region .address) (omega (arith, n, within .1))
           (λ x b. rw memory-is (inside-region file (s .«segment_size») directory some before 0 (regions file) old k x entries all l (omega (arith, n)))))
 
-    pub all-in : Loaded file old e
+    pub all-in : Loaded s file string old e
     all-in =
         record {
           size = size;

@@ -8,6 +8,7 @@ use native.Mathlib.Omega.{arith}
 use native.Mathlib.Numerals.{add-one}
 use lib.Dec.{eqb}
 use borrow.Author.Tests.{eq-eqb, ne-eqb, eqb-true, eqb-false}
+use Rattle.parameters.specs.Parameters.{none}
 use Rattle.machine_record.specs.declared.Settings.{Settings}
 use Rattle.machine_record.specs.Record as machine
 use Rattle.load_record.specs.declared.Session.{Session}
@@ -21,14 +22,15 @@ module _ {ms : Settings} (fr : Frames ms) (old : List ℕ) where
   laidOver zero = old
   laidOver (suc k) = fr .lays k (laidOver k)
 
-  -- The first k are in: those k fit, memory is the old memory with them laid over it, and the machine is as the last frame leaves it if k
-  -- is their number, otherwise not Started.
+  -- The first k are in: those k fit, memory is the old memory with them laid over it, and the machine is as the last frame leaves a fresh one
+  -- if k is their number, otherwise not Started, and it keeps nothing.
   pub record FirstIn (k : ℕ) (e : End) : Type 0 where
     pub most : k ≤ fr .many
     pub fitting : (i : ℕ) → i < k → fr .fit i ≡ true
     pub memory-is : e .memory ≡ laidOver k
-    pub started : k ≡ fr .many → e .machine ≡ fr .done
+    pub started : k ≡ fr .many → e .machine ≡ fr .done none
     pub not-started : (k ≡ fr .many → ⊥) → machine.is 4 (e .machine) ≡ false
+    pub keeps-nothing : (k ≡ fr .many → ⊥) → e .machine .parameters ≡ none
 
   -- waiting, the first 0 are in; rejected, the first c; finished, all; otherwise the first c, or the first c + 1
   pub record Meaning (h : Session) (e : End) : Type 0 where
@@ -46,15 +48,19 @@ module _ {ms : Settings} (fr : Frames ms) (old : List ℕ) where
   -- the machine after k answers that were all taken
   in-all : (k : ℕ) → k ≤ fr .many → ((i : ℕ) → i < k → fr .fit i ≡ true) → FirstIn k (At fr old k)
   unfolding machineAt
-  in-all k l f = record { most = l; fitting = f; memory-is = all-laid k f; started = last k f; not-started = early k f }
+  in-all k l f = record { most = l; fitting = f; memory-is = all-laid k f; started = last k f; not-started = early k f; keeps-nothing = empty k f }
     where
-      last : (j : ℕ) → ((i : ℕ) → i < j → fr .fit i ≡ true) → j ≡ fr .many → machineAt fr old j ≡ fr .done
+      last : (j : ℕ) → ((i : ℕ) → i < j → fr .fit i ≡ true) → j ≡ fr .many → machineAt fr old j ≡ fr .done none
       last zero g e = absurd (omega (arith, fr .some))
       last (suc j) g e = rw (g j (omega arith), eq-eqb (j + 1) (fr .many) (omega (arith, e)))
 
       early : (j : ℕ) → ((i : ℕ) → i < j → fr .fit i ≡ true) → (j ≡ fr .many → ⊥) → machine.is 4 (machineAt fr old j) ≡ false
       early zero g e = refl
       early (suc j) g e = rw (g j (omega arith), ne-eqb (j + 1) (fr .many) (λ q. e (omega arith)))
+
+      empty : (j : ℕ) → ((i : ℕ) → i < j → fr .fit i ≡ true) → (j ≡ fr .many → ⊥) → machineAt fr old j .parameters ≡ none
+      empty zero g e = refl
+      empty (suc j) g e = rw (g j (omega arith), ne-eqb (j + 1) (fr .many) (λ q. e (omega arith)))
 
   -- the machine after an answer that a frame does not fit
   in-but-one : (c : ℕ) → c < fr .many → ((i : ℕ) → i < c → fr .fit i ≡ true) → fr .fit c ≡ false → FirstIn c (At fr old (suc c))
@@ -66,6 +72,7 @@ module _ {ms : Settings} (fr : Frames ms) (old : List ℕ) where
         memory-is = rw out (all-laid c f);
         started = λ e. absurd (omega arith);
         not-started = λ _. rw out;
+        keeps-nothing = λ _. rw out;
       }
 
   -- the frame on its way is in or not

@@ -1,17 +1,20 @@
 -- A load over the link: its ends, its fresh world, and what 'the first k are in' means (PROTOCOL 6, 'Link').
-use Prim.Native.Nat.{ℕ, zero, suc, _≤_, _<_}
+use Prim.Native.Nat.{ℕ, zero, suc, _≤_, _<_, min}
 use mathlib.Core.Path.{_≡_}
-use mathlib.Core.Bool.{true, false}
+use mathlib.Core.Bool.{true, false, cond as pick}
 use mathlib.Core.List.{List}
 use lib.ListN.{length}
 use Rattle.memory.specs.Memory.{fits, laid}
 use Rattle.directory.specs.Directory.{trailer, regions}
 use Rattle.image.specs.Image.{many, segmentOf}
+use Rattle.parameters.specs.declared.Parameters.{Parameters}
+use Rattle.parameters.specs.Parameters.{kept, none}
 use Rattle.machine_record.specs.declared.Settings.{Settings as MachineSettings}
 use Rattle.machine_record.specs.Record as machine
 use Rattle.load_record.specs.declared.Session.{Session}
 use Rattle.load_record.specs.declared.Settings.{Settings as LoadSettings}
 use Rattle.load_record.specs.Record.{fresh}
+use Rattle.load_checks.specs.Checks.{given, frames}
 use Rattle.load.specs.Load.{loadFrame, loadTimer}
 use Rattle.link.specs.Link.{turned, Ends, World, Event, run}
 use Rattle.link.specs.MachineEnd.{End, endsWith, freshWith}
@@ -21,29 +24,42 @@ abbrev pub hostEnd : Session → Unit {0} → Session
 hostEnd h none = h
 
 -- the calls of both ends, as the code promises them; there are no further events
-abbrev pub loadEnds : LoadSettings → MachineSettings → List ℕ → Ends Session End ⊥
-loadEnds s ms file =
-    endsWith ms (λ h f b. turned hostEnd (loadFrame s h file f b)) (λ h b. turned hostEnd (loadTimer s h file b)) (λ w x. absurd x)
+abbrev pub loadEnds : LoadSettings → MachineSettings → List ℕ → List ℕ → Ends Session End ⊥
+loadEnds s ms file string =
+    endsWith ms (λ h f b. turned hostEnd (loadFrame s h file string f b)) (λ h b. turned hostEnd (loadTimer s h file string b)) (λ w x. absurd x)
 
 -- fresh ends: a waiting host, and a Requesting machine whose first frame, the one that a timer gives, is the only one queued
 abbrev pub freshWorld : MachineSettings → List ℕ → World Session End
 freshWorld ms memory = freshWith ms fresh machine.requesting memory
 
--- the world after a list of events, from fresh ends with this image and this memory; `Event ⊥`: the link's own events and no others
-abbrev pub after : LoadSettings → MachineSettings → List ℕ → List ℕ → List (Event ⊥) → World Session End
-after s ms file memory es = run (loadEnds s ms file) (freshWorld ms memory) es
+-- the world after a list of events, from fresh ends with this image, this parameter string and this memory; `Event ⊥`: the link's own
+-- events and no others
+abbrev pub after : LoadSettings → MachineSettings → List ℕ → List ℕ → List ℕ → List (Event ⊥) → World Session End
+after s ms file string memory es = run (loadEnds s ms file string) (freshWorld ms memory) es
 
+-- what a load leaves in a fresh machine's record: what the parameter string says, and nothing if none is given
+abbrev pub leaves : LoadSettings → List ℕ → Parameters
+leaves s string = pick (given s) (kept string) none
+
+-- the old memory with the first k segments of an image laid over it
 module _ (file : List ℕ) (S : ℕ) (memory : List ℕ) where
-  -- the old memory with the first k segments laid over it
   unfoldable pub laidOver : ℕ → List ℕ
   laidOver zero = memory
   laidOver (suc k) = laid (segmentOf file S k .bytes) (segmentOf file S k .address) (laidOver k)
 
-  -- The first k are in: those k fit, memory is the old memory with them laid over it, and the machine is Started with the
-  -- image's transfer address if k is N, otherwise not Started.
+module _ (s : LoadSettings) (file string memory : List ℕ) where
+  -- how many of the first k frames are segments; a parameter frame behind them lays no bytes
+  abbrev pub segments : ℕ → ℕ
+  segments k = min k (many (s .«segment_size») (regions file))
+
+  -- The first k of the load's n frames are in: the segments among them fit, memory is the old memory with those laid over it, and the machine
+  -- is Started with the image's transfer address and keeps what the parameter string says if k is n; otherwise it is not Started, and
+  -- keeps nothing.
   pub record FirstIn (k : ℕ) (e : End) : Type 0 where
-    pub most : k ≤ many S (regions file)
-    pub fitting : (i : ℕ) → i < k → fits (segmentOf file S i .address) (length (segmentOf file S i .bytes)) (length memory) ≡ true
-    pub memory-is : e .memory ≡ laidOver k
-    pub started : k ≡ many S (regions file) → e .machine ≡ machine.started (trailer file .transfer)
-    pub not-started : (k ≡ many S (regions file) → ⊥) → machine.is 4 (e .machine) ≡ false
+    pub most : k ≤ frames s file
+    pub fitting : (i : ℕ) → i < segments k
+        → fits (segmentOf file (s .«segment_size») i .address) (length (segmentOf file (s .«segment_size») i .bytes)) (length memory) ≡ true
+    pub memory-is : e .memory ≡ laidOver file (s .«segment_size») memory (segments k)
+    pub started : k ≡ frames s file → e .machine ≡ machine.started (leaves s string) (trailer file .transfer)
+    pub not-started : (k ≡ frames s file → ⊥) → machine.is 4 (e .machine) ≡ false
+    pub keeps-nothing : (k ≡ frames s file → ⊥) → e .machine .parameters ≡ none

@@ -20,6 +20,7 @@ use Rattle.directory.specs.Directory.{demand}
 use Rattle.directory.specs.Directory.{refusal as imageRefusal}
 use Rattle.image.specs.Laws.{ready}
 use Rattle.step.specs.Step.{first}
+use Rattle.parameters.specs.Parameters.{none}
 use Rattle.machine_record.specs.declared.Machine.{Machine}
 use Rattle.machine_record.specs.declared.Settings.{Settings as MachineSettings}
 use Rattle.machine_record.specs.Record.{requesting}
@@ -30,6 +31,7 @@ use Rattle.load_record.specs.declared.Settings.{Settings as LoadSettings}
 use Rattle.load_next.specs.Next as next
 use Rattle.load_timer.specs.Timer as load-timer
 use Rattle.load_checks.specs.Checks as load-checks
+use Rattle.load_checks.specs.Laws.{string-whole}
 use Rattle.load.specs.Load as load
 use Rattle.link.specs.Link.{Frame, World}
 use Rattle.link.specs.CallLaws as call
@@ -40,7 +42,7 @@ use Rattle.link.specs.MachineEndLaws.{frame-unrefused, timer-unrefused, as-acce
 use Rattle.link_load.specs.Model.{hostEnd, loadEnds}
 use Rattle.link_load.specs.AloneLaws.{Good, bound}
 use Rattle.link_load.specs.FramesLaws.{Frames, machineAt, length-laid, said}
-use Rattle.link_load.specs.ImageLaws.{segment-read}
+use Rattle.link_load.specs.ImageLaws.{frame-read}
 use Rattle.link_load.specs.ReportLaws.{fr, load-transfer, Kept}
 
 -- ---- the host's record alone: one with good numbers is none of those that are bad
@@ -69,24 +71,26 @@ module _ (s : LoadSettings) (N : ℕ) (h : Session) (g : Good N (s .repeats) h) 
           (λ v. let z = g .otherwise (eqb-false _ _ v) in rw (ne-eqb (h .position) N (omega arith)))
 
 -- so with a reply buffer of 1,500 bytes no call is refused but for its frame
-not-refused : (s : LoadSettings) (file : List ℕ) (h : Session) (reply : List ℕ) → cutRefusal file (s .«segment_size») ≡ 0 → s .repeats ≤ 255
-    → Good (load-checks.frames file (s .«segment_size»)) (s .repeats) h → 1500 ≤ length reply → load-checks.refusal s h file reply ≡ 0
+not-refused : (s : LoadSettings) (file string : List ℕ) (h : Session) (reply : List ℕ) → cutRefusal file (s .«segment_size») ≡ 0
+    → load-checks.stringRefusal s string ≡ 0 → s .repeats ≤ 255 → s .«with_parameters» ≤ 1
+    → Good (load-checks.frames s file) (s .repeats) h → 1500 ≤ length reply → load-checks.refusal s h file string reply ≡ 0
 unfolding first demand
-not-refused s file h reply ok few g l =
+not-refused s file string h reply ok good few mark g l =
     let r = ready file (s .«segment_size») ok in
     let low = le-leb 1 (s .«segment_size») (r .some) in
     let high = le-leb (s .«segment_size») widest (r .narrow) in
     let whole : imageRefusal file ≡ 0 = rw (low, high) at ok in
-    rw (low, high, le-leb (s .repeats) 255 few, sound s (load-checks.frames file (s .«segment_size»)) h g, le-leb 1500 (length reply) l, whole, consistent s (load-checks.frames file (s .«segment_size»)) h g)
+    rw (low, high, le-leb (s .repeats) 255 few, le-leb (s .«with_parameters») 1 mark, sound s (load-checks.frames s file) h g, le-leb 1500 (length reply) l, whole, consistent s (load-checks.frames s file) h g, good)
 
 module _
-    (s : LoadSettings) (ms : MachineSettings) (file old : List ℕ) (ok : cutRefusal file (s .«segment_size») ≡ 0) (o : Octets file)
-    (few : s .repeats ≤ 255) (fresh : machineRefusal ms requesting (length old) 1500 ≡ 0) (w : World Session End) (k : Kept s ms file old ok o w) where
+    (s : LoadSettings) (ms : MachineSettings) (file string old : List ℕ) (ok : cutRefusal file (s .«segment_size») ≡ 0) (o : Octets file)
+    (good : load-checks.stringRefusal s string ≡ 0) (few : s .repeats ≤ 255) (mark : s .«with_parameters» ≤ 1)
+    (fresh : machineRefusal ms requesting (length old) 1500 ≡ 0) (w : World Session End) (k : Kept s ms file string old ok o good w) where
   abbrev t : Frames ms
-  t = fr s ms file old ok o
+  t = fr s ms file string old ok o good
 
-  host-accepted : (reply : List ℕ) → 1500 ≤ length reply → load-checks.refusal s (w .host) file reply ≡ 0
-  host-accepted reply l = not-refused s file (w .host) reply ok few (k .1 .0) l
+  host-accepted : (reply : List ℕ) → 1500 ≤ length reply → load-checks.refusal s (w .host) file string reply ≡ 0
+  host-accepted reply l = not-refused s file string (w .host) reply ok good few mark (k .1 .0) l
 
   -- the machine's state and memory length stay within their ranges
   any : (a b : Bool) (x y z : Machine) → x .state ≤ 4 → y .state ≤ 4 → z .state ≤ 4 → pick a (pick b x y) z .state ≤ 4
@@ -97,7 +101,7 @@ module _
   state : (m : ℕ) → machineAt t old m .state ≤ 4
   unfolding machineAt
   state zero = omega arith
-  state (suc m) = any (t .fit m) (eqb (m + 1) (t .many)) (t .done) _ _ (omega arith) (omega arith) (omega arith)
+  state (suc m) = any (t .fit m) (eqb (m + 1) (t .many)) (t .done none) _ _ (omega arith) (omega arith) (omega arith)
 
   machine-accepted : (reply : List ℕ) → 1500 ≤ length reply → machineRefusal ms (w .machine .machine) (length (w .machine .memory)) (length reply) ≡ 0
   machine-accepted reply l =
@@ -105,31 +109,31 @@ module _
       rw (i .2 .end-is, length-laid t old refl (i .0) (i .2 .few))
       (as-accepted ms requesting (machineAt t old (i .0)) (length old) (length reply) (omega arith) (state (i .0)) l fresh)
 
-  -- every frame that the machine sends is read, and every frame of a segment
+  -- every frame that the machine sends is read, and every frame of the load
   said-read : (k : ℕ) → fields (layout (said t old k)) .refusal ≡ 0
   said-read zero = rw (request-program-fields (ms .device) (ms .processor))
   said-read (suc k) = rw (request-load-fields (after-number (k % 256)) (pick (t .fit k) 0 1))
 
   host-read : (f : Frame) (q : List Frame) → w .toHost ≡ f ∷ q → fields f .refusal ≡ 0
   host-read f q e =
-      let x = first-up (load-transfer s ms file old ok o) (loadEnds s ms file) w f q (k .0) e in
+      let x = first-up (load-transfer s ms file string old ok o good) (loadEnds s ms file string) w f q (k .0) e in
       rw (x .1) (said-read (x .0))
 
   machine-read : (f : Frame) (q : List Frame) → w .toMachine ≡ f ∷ q → fields f .refusal ≡ 0
   machine-read f q e =
-      let x = first-down (load-transfer s ms file old ok o) (loadEnds s ms file) w f q (k .0) e in
+      let x = first-down (load-transfer s ms file string old ok o good) (loadEnds s ms file string) w f q (k .0) e in
       let less : x .0 < t .many = ⊎-elim (λ l. l) (λ p. p .0) (x .2) in
-      rw (x .1) (segment-read (s .«segment_size») ms file (length old) ok o (x .0) less)
+      rw (x .1) (frame-read s ms file string (length old) ok o (string-whole s string good) (x .0) less)
 
-  pub unrefused : Unrefused (loadEnds s ms file) w
+  pub unrefused : Unrefused (loadEnds s ms file string) w
   unrefused =
       record {
         hostFrame = λ f q b e l.
-            call.frame-unrefused hostEnd (load-checks.refusal s (w .host) file b) f (w .host) tt b
-            (λ (x : Fields). load.does file (s .«segment_size») (next.react (load-checks.frames file (s .«segment_size»)) (w .host) x)) (host-accepted b l) (host-read f q e);
+            call.frame-unrefused hostEnd (load-checks.refusal s (w .host) file string b) f (w .host) tt b
+            (λ (x : Fields). load.does s file string (next.react (load-checks.frames s file) (w .host) x)) (host-accepted b l) (host-read f q e);
         hostTimer = λ b l.
-            call.unrefused hostEnd (load-checks.refusal s (w .host) file b) (w .host) tt b
-            (load.does file (s .«segment_size») (load-timer.onTimer (load-checks.frames file (s .«segment_size»)) (s .repeats) (w .host))) (host-accepted b l);
+            call.unrefused hostEnd (load-checks.refusal s (w .host) file string b) (w .host) tt b
+            (load.does s file string (load-timer.onTimer (load-checks.frames s file) (s .repeats) (w .host))) (host-accepted b l);
         machineFrame = λ f q b e l. frame-unrefused ms (w .machine .machine) (w .machine .memory) b f (machine-accepted b l) (machine-read f q e);
         machineTimer = λ b l. timer-unrefused ms (w .machine .machine) (w .machine .memory) b (machine-accepted b l);
       }

@@ -1,24 +1,41 @@
--- Laws of the load's calls: a segment's frame is sent whole.
-use Prim.Native.Nat.{ℕ, _+_, _≤_}
-use mathlib.Core.Path.{_≡_, refl}
-use mathlib.Core.Bool.{true}
+-- Laws of the load's calls: every frame is sent whole.
+use Prim.Native.Nat.{ℕ, _+_, _%_, _≤_}
+use mathlib.Core.Path.{_≡_, refl, _∙_}
+use mathlib.Core.Bool.{true, cond as pick}
+use mathlib.Core.List.{List}
 use native.Mathlib.Omega.{arith}
 use lib.ListN.{length, length-append}
 use lib.Dec.{eqb}
 use Rattle.octets.specs.TestLaws.{by-cases}
 use Rattle.octets.specs.NumberLaws.{length-low}
-use Rattle.message.specs.Message.{Message}
+use Rattle.message.specs.Message.{Message, memoryLoadTransfer, memoryLoad, parameters}
 use Rattle.message.specs.Write.{layout, listed}
 use Rattle.image.specs.Image.{Piece, widest}
+use Rattle.load_record.specs.declared.Settings.{Settings}
+use Rattle.load_checks.specs.Checks.{given}
+use Rattle.load_checks.specs.Laws.{Whole}
 use Rattle.load.specs.Load.{numbered}
 
--- a segment's message is listed and has at most 1,500 bytes
-module _ (N transfer i : ℕ) (p : Piece) where
-  pub numbered-listed : listed (numbered N transfer i p) ≡ true
-  numbered-listed = by-cases (λ (m : Message). listed m ≡ true) (eqb (i + 1) N) (λ _. refl) (λ _. refl)
+-- a message that a load sends is listed and has at most 1,500 bytes
+abbrev pub Sent : Message → Type 0
+Sent m = (listed m ≡ true) × (length (layout m) ≤ 1500)
 
-  pub numbered-short : length (p .bytes) ≤ widest → length (layout (numbered N transfer i p)) ≤ 1500
+parameters-sent : (number : ℕ) (string : List ℕ) (transfer : ℕ) → Whole string → Sent (parameters number string transfer)
+unfolding layout
+parameters-sent number string transfer w = (rw (w .0), simp (length-append, length-low) (omega (arith, w .1)))
+
+module _ (number : ℕ) (p : Piece) (l : length (p .bytes) ≤ widest) where
+  transfer-sent : (transfer : ℕ) → Sent (memoryLoadTransfer number (p .address) (p .bytes) transfer)
   unfolding layout
-  numbered-short l =
-      by-cases (λ (m : Message). length (layout m) ≤ 1500) (eqb (i + 1) N)
-      (λ _. simp (length-append, length-low) (omega arith)) (λ _. simp (length-append, length-low) (omega arith))
+  transfer-sent transfer = (refl, simp (length-append, length-low) (omega arith))
+
+  segment-sent : Sent (memoryLoad number (p .address) (p .bytes))
+  unfolding layout
+  segment-sent = (refl, simp (length-append, length-low) (omega arith))
+
+pub numbered-sent : (s : Settings) (string : List ℕ) (n transfer i : ℕ) (p : Piece) → (given s ≡ true → Whole string) → length (p .bytes) ≤ widest
+    → Sent (numbered s string n transfer i p)
+numbered-sent s string n transfer i p w l =
+    by-cases Sent (eqb (i + 1) n) {x = pick (given s) (parameters (i % 256) string transfer) (memoryLoadTransfer (i % 256) (p .address) (p .bytes) transfer)}
+    (λ _. by-cases Sent (given s) (λ g. parameters-sent (i % 256) string transfer (w g)) (λ _. transfer-sent (i % 256) p l transfer))
+    (λ _. segment-sent (i % 256) p l)

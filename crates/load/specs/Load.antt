@@ -4,7 +4,7 @@ use Prim.Native.Nat.{ℕ, _+_, _%_}
 use mathlib.Core.Bool.{cond as pick}
 use mathlib.Core.List.{List}
 use lib.Dec.{eqb}
-use Rattle.message.specs.Message.{Message, memoryLoadTransfer, memoryLoad}
+use Rattle.message.specs.Message.{Message, memoryLoadTransfer, memoryLoad, parameters}
 use Rattle.directory.specs.Directory.{trailer}
 use Rattle.image.specs.Image.{Piece, segmentOf}
 use Rattle.step.specs.Step.{Sending, nothing, sends, Act, Outcome, acts, call, frameCall}
@@ -13,17 +13,19 @@ use Rattle.load_record.specs.declared.Session.{Session}
 use Rattle.load_record.specs.declared.Next.{Next}
 use Rattle.load_next.specs.Next.{react}
 use Rattle.load_timer.specs.Timer.{onTimer}
-use Rattle.load_checks.specs.Checks.{frames, refusal}
+use Rattle.load_checks.specs.Checks.{given, frames, refusal}
 
 -- ---- frames
--- segment i of N in its frame: the last is sent as code 0, the others as code 2
-abbrev pub numbered : ℕ → ℕ → ℕ → Piece → Message
-numbered N transfer i p =
-    pick (eqb (i + 1) N) (memoryLoadTransfer (i % 256) (p .address) (p .bytes) transfer) (memoryLoad (i % 256) (p .address) (p .bytes))
+-- frame i of n, with segment i: the last is code 20 with the parameter string, or code 0 if none is given; the others are code 2
+abbrev pub numbered : Settings → List ℕ → ℕ → ℕ → ℕ → Piece → Message
+numbered s string n transfer i p =
+    pick (eqb (i + 1) n)
+    (pick (given s) (parameters (i % 256) string transfer) (memoryLoadTransfer (i % 256) (p .address) (p .bytes) transfer))
+    (memoryLoad (i % 256) (p .address) (p .bytes))
 
 -- frame i of the load
-abbrev pub segmentMessage : List ℕ → ℕ → ℕ → Message
-segmentMessage file S i = numbered (frames file S) (trailer file .transfer) i (segmentOf file S i)
+abbrev pub frameMessage : Settings → List ℕ → List ℕ → ℕ → Message
+frameMessage s file string i = numbered s string (frames s file) (trailer file .transfer) i (segmentOf file (s .«segment_size») i)
 
 -- ---- what is counted, and what is sent
 -- this record with one more frame sent
@@ -38,18 +40,16 @@ abbrev pub sending : Next → Message → Sending
 sending next what = pick (next .sends) (sends what) nothing
 
 -- what is done next: the frame at the record's position goes out
-abbrev pub does : List ℕ → ℕ → Next → Act Session Unit
-does file S next = acts (counted next) tt (sending next (segmentMessage file S (next .session .position)))
+abbrev pub does : Settings → List ℕ → List ℕ → Next → Act Session Unit
+does s file string next = acts (counted next) tt (sending next (frameMessage s file string (next .session .position)))
 
 -- ---- calls
 -- a step on a frame
-abbrev pub loadFrame : Settings → Session → List ℕ → List ℕ → List ℕ → Outcome Session Unit
-loadFrame s h file frame reply =
-    frameCall (refusal s h file reply) frame h tt reply
-    (λ f. does file (s .«segment_size») (react (frames file (s .«segment_size»)) h f))
+abbrev pub loadFrame : Settings → Session → List ℕ → List ℕ → List ℕ → List ℕ → Outcome Session Unit
+loadFrame s h file string frame reply =
+    frameCall (refusal s h file string reply) frame h tt reply (λ f. does s file string (react (frames s file) h f))
 
 -- a step on a timer
-abbrev pub loadTimer : Settings → Session → List ℕ → List ℕ → Outcome Session Unit
-loadTimer s h file reply =
-    call (refusal s h file reply) h tt reply
-    (does file (s .«segment_size») (onTimer (frames file (s .«segment_size»)) (s .repeats) h))
+abbrev pub loadTimer : Settings → Session → List ℕ → List ℕ → List ℕ → Outcome Session Unit
+loadTimer s h file string reply =
+    call (refusal s h file string reply) h tt reply (does s file string (onTimer (frames s file) (s .repeats) h))

@@ -1,7 +1,7 @@
 // The calls of the host's end of a load (PROTOCOL 5, 'Host end').
 ghost use mathlib.Core.Path.{_≡_};
 ghost use mathlib.Core.Bool.{true};
-ghost use Prim.Native.Nat.{_*_, _≤_};
+ghost use Prim.Native.Nat.{_+_, _*_, _≤_};
 ghost use Rattle.buffer.specs.Lay.{Came, refused};
 ghost use Rattle.message.specs.Write.{sent};
 ghost use Rattle.directory.specs.Directory.{addresses};
@@ -31,43 +31,60 @@ pub fn start() -> Session
     load_record::start()
 }
 
-// The segment that might go out on a frame; no image has more segments than there are addresses.
+// The frame that might go out on a frame; no load has more than one frame more than there are addresses.
 fn ahead(session: Session) -> u64
-    ensures { λ r. ⌜ (session .position ≤ addresses → r ≡ ahead session) ⌝ }
+    ensures { λ r. ⌜ (session .position ≤ addresses + 1 → r ≡ ahead session) ⌝ }
 {
     if session.waiting == 1 {
         return 0;
     }
-    octets::lesser(session.position, directory::ADDRESSES) + 1
+    octets::lesser(session.position, directory::ADDRESSES + 1) + 1
 }
 
-// Writes frame `index` of the load: a segment, as code 0 if it is the last, else as code 2.
-fn send(file: &[u8], index: u64, k: Ruling, reply: &mut [u8]) -> Written
-    requires { ⌜ Sendable (now file) index k (now reply) ⌝ }
-    ensures { λ r. ⌜ Came (sent (numbered (k .many) (k .transfer) index (piece (now (file .entry)) (k .segment))) (now (reply .entry))) r (now (reply .exit)) ⌝ }
+// Writes frame `index` of the load: a segment as code 2; the last frame is the parameters as code 20, or a segment as code 0.
+fn send(
+    settings: Settings,
+    file: &[u8],
+    parameters: &[u8],
+    index: u64,
+    k: Ruling,
+    reply: &mut [u8],
+) -> Written
+    requires { ⌜ Sendable settings (now file) (now parameters) index k (now reply) ⌝ }
+    ensures { λ r. ⌜ Came (sent (numbered settings (now (parameters .entry)) (k .many) (k .transfer) index (piece (now (file .entry)) (k .segment))) (now (reply .entry))) r (now (reply .exit)) ⌝ }
 {
     let number = (index % 256) as u8;
     let at = k.segment.place as usize;
     let end = at + k.segment.length as usize;
     let bytes = &file[at..end];
-    if index + 1 == k.many {
-        return writer::memory_load_transfer(number, k.segment.address, bytes, k.transfer, reply);
+    if index + 1 != k.many {
+        return writer::memory_load(number, k.segment.address, bytes, reply);
     }
-    writer::memory_load(number, k.segment.address, bytes, reply)
+    if settings.with_parameters == 1 {
+        return writer_listed::parameters(number, parameters, k.transfer, reply);
+    }
+    writer::memory_load_transfer(number, k.segment.address, bytes, k.transfer, reply)
 }
 
 // Answers with what the host does next, and with its frame if it sends one.
-fn give(file: &[u8], k: Ruling, next: Next, reply: &mut [u8]) -> Stepped
-    requires { ⌜ (next .session .sent ≤ 256 * addresses)
-        × (next .sends ≡ true → Sendable (now file) (next .session .position) k (now reply)) ⌝ }
-    ensures { λ r. ⌜ Leaves (gives (acting (now (file .entry)) k next) (now (reply .entry))) (r .session) (r .answer) tt (now (reply .exit)) ⌝ }
+fn give(
+    settings: Settings,
+    file: &[u8],
+    parameters: &[u8],
+    k: Ruling,
+    next: Next,
+    reply: &mut [u8],
+) -> Stepped
+    requires { ⌜ (next .session .sent ≤ 256 * (addresses + 1))
+        × (next .sends ≡ true → Sendable settings (now file) (now parameters) (next .session .position) k (now reply)) ⌝ }
+    ensures { λ r. ⌜ Leaves (gives (acting settings (now (file .entry)) (now (parameters .entry)) k next) (now (reply .entry))) (r .session) (r .answer) tt (now (reply .exit)) ⌝ }
 {
     let mut session = next.session;
     if next.sends {
         session.sent = session.sent + 1;
         return Stepped {
             session,
-            answer: send(file, session.position, k, reply),
+            answer: send(settings, file, parameters, session.position, k, reply),
         };
     }
     Stepped {
@@ -94,12 +111,13 @@ pub fn frame(
     settings: Settings,
     session: Session,
     file: &[u8],
+    parameters: &[u8],
     frame: &[u8],
     reply: &mut [u8],
 ) -> Stepped
-    ensures { λ r. ⌜ Leaves (loadFrame settings session (now (file .entry)) (now (frame .entry)) (now (reply .entry))) (r .session) (r .answer) tt (now (reply .exit)) ⌝ }
+    ensures { λ r. ⌜ Leaves (loadFrame settings session (now (file .entry)) (now (parameters .entry)) (now (frame .entry)) (now (reply .entry))) (r .session) (r .answer) tt (now (reply .exit)) ⌝ }
 {
-    let k = rule(settings, session, file, reply, ahead(session));
+    let k = rule(settings, session, file, parameters, reply, ahead(session));
     if k.refusal != 0 {
         return refused(k.refusal, session);
     }
@@ -107,21 +125,24 @@ pub fn frame(
     if f.refusal != 0 {
         return refused(f.refusal, session);
     }
-    give(file, k, load_next::react(k.many, session, f), reply)
+    let next = load_next::react(k.many, session, f);
+    give(settings, file, parameters, k, next, reply)
 }
 
 // A step on a timer.
-pub fn timer(settings: Settings, session: Session, file: &[u8], reply: &mut [u8]) -> Stepped
-    ensures { λ r. ⌜ Leaves (loadTimer settings session (now (file .entry)) (now (reply .entry))) (r .session) (r .answer) tt (now (reply .exit)) ⌝ }
+pub fn timer(
+    settings: Settings,
+    session: Session,
+    file: &[u8],
+    parameters: &[u8],
+    reply: &mut [u8],
+) -> Stepped
+    ensures { λ r. ⌜ Leaves (loadTimer settings session (now (file .entry)) (now (parameters .entry)) (now (reply .entry))) (r .session) (r .answer) tt (now (reply .exit)) ⌝ }
 {
-    let k = rule(settings, session, file, reply, session.position);
+    let k = rule(settings, session, file, parameters, reply, session.position);
     if k.refusal != 0 {
         return refused(k.refusal, session);
     }
-    give(
-        file,
-        k,
-        load_timer::on_timer(k.many, settings.repeats, session),
-        reply,
-    )
+    let next = load_timer::on_timer(k.many, settings.repeats, session);
+    give(settings, file, parameters, k, next, reply)
 }

@@ -1,54 +1,83 @@
 -- What a call of the host's end of a load refuses, but for its frame (PROTOCOL 5, 'Host end', and 7, 'Refusals').
 use Prim.Native.Nat.{ℕ, _+_, _*_}
-use mathlib.Core.Path.{_≡_}
 use mathlib.Core.Bool.{Bool, true, not, _&&_, cond as pick}
 use mathlib.Core.List.{List, [], _∷_}
 use lib.ListN.{length}
 use lib.Dec.{eqb, leb}
-use Rattle.directory.specs.Directory.{trailer, regions, refusal as imageRefusal}
+use Rattle.directory.specs.Directory.{trailer, regions, nowhere, refusal as imageRefusal}
 use Rattle.image.specs.Image.{many, segment, widest}
+use Rattle.message.specs.Write.{entryList}
 use Rattle.step.specs.Step.{unless, first}
 use Rattle.load_record.specs.declared.Settings.{Settings}
 use Rattle.load_record.specs.declared.Session.{Session}
 use Rattle.load_checks.specs.declared.Ruling.{Ruling}
 
--- N, the number of frames that make the load: one for each segment
-abbrev pub frames : List ℕ → ℕ → ℕ
-frames file S = many S (regions file)
+-- a parameter string ends the load
+abbrev pub given : Settings → Bool
+given s = eqb (s .«with_parameters») 1
 
--- S and R
+-- n, the number of frames that make the load: one for each of N segments, and one more for a parameter string
+abbrev pub framesOf : Settings → ℕ → ℕ
+framesOf s N = pick (given s) (N + 1) N
+
+abbrev pub frames : Settings → List ℕ → ℕ
+frames s file = framesOf s (many (s .«segment_size») (regions file))
+
+-- S, R and the mark of a parameter string
 abbrev pub settled : Settings → Bool
-settled s = leb 1 (s .«segment_size») && leb (s .«segment_size») widest && leb (s .repeats) 255
+settled s =
+    leb 1 (s .«segment_size») && leb (s .«segment_size») widest && leb (s .repeats) 255 && leb (s .«with_parameters») 1
 
 -- a waiting record has every number 0
 abbrev pub blank : Session → Bool
 blank h = eqb (h .verdict) 0 && eqb (h .position) 0 && eqb (h .repeats) 0 && eqb (h .sent) 0
 
--- the record is none of those that are bad (PROTOCOL 7, 'Refusals'), but for what needs N
+-- the record is none of those that are bad (PROTOCOL 7, 'Refusals'), but for what needs n
 abbrev pub sound : Settings → Session → Bool
 sound s h =
     leb (h .verdict) 4 && leb (h .repeats) (s .repeats) && leb (h .waiting) 1 && pick (eqb (h .waiting) 1) (blank h) true
 
--- what needs N: c at most N, sent at most N × (R + 1), and verdict 1 just at N
+-- what needs n: c at most n, sent at most n × (R + 1), and verdict 1 just at n
 abbrev pub consistent : ℕ → Settings → Session → Bool
-consistent N s h =
-    leb (h .position) N && leb (h .sent) (N * (s .repeats + 1))
-    && pick (eqb (h .verdict) 1) (eqb (h .position) N) (not (eqb (h .position) N))
+consistent n s h =
+    leb (h .position) n && leb (h .sent) (n * (s .repeats + 1))
+    && pick (eqb (h .verdict) 1) (eqb (h .position) n) (not (eqb (h .position) n))
+
+-- the most bytes of a parameter string: code 20 has 7 more
+abbrev pub longest : ℕ
+longest = 1493
+
+-- the string's refusal: 4 for entries that a writer refuses, then 2; without a mark it is not looked at
+abbrev pub stringRefusal : Settings → List ℕ → ℕ
+stringRefusal s string =
+    pick (given s) (first (unless (entryList string .listed) 4 ∷ unless (leb (length string) longest) 2 ∷ [])) 0
 
 -- a call's refusal; 0 is none
-abbrev pub refusal : Settings → Session → List ℕ → List ℕ → ℕ
-refusal s h file reply =
+abbrev pub refusal : Settings → Session → List ℕ → List ℕ → List ℕ → ℕ
+refusal s h file string reply =
     first
     (unless (settled s) 10
     ∷ unless (sound s h) 10
     ∷ unless (leb 1500 (length reply)) 9
     ∷ imageRefusal file
-    ∷ unless (consistent (frames file (s .«segment_size»)) s h) 10
+    ∷ unless (consistent (frames s file) s h) 10
+    ∷ stringRefusal s string
     ∷ [])
 
--- a call's refusal; if it is 0, N, the image's transfer address and segment i
-pub record Ruled (s : Settings) (h : Session) (file reply : List ℕ) (i : ℕ) (k : Ruling) : Type 0 where
-  pub refused : k .refusal ≡ refusal s h file reply
-  pub counted : k .refusal ≡ 0 → k .many ≡ frames file (s .«segment_size»)
-  pub started : k .refusal ≡ 0 → k .transfer ≡ trailer file .transfer
-  pub reached : k .refusal ≡ 0 → k .segment ≡ segment (s .«segment_size») (regions file) i
+-- a refusal, and no other number
+abbrev pub denied : ℕ → Ruling
+denied n = record { refusal = n; many = 0; transfer = 0; segment = nowhere }
+
+-- n, the image's transfer address and segment i, nowhere if there is none
+abbrev pub accepts : Settings → List ℕ → ℕ → Ruling
+accepts s file i =
+    record {
+      refusal = 0;
+      many = frames s file;
+      transfer = trailer file .transfer;
+      segment = segment (s .«segment_size») (regions file) i;
+    }
+
+abbrev pub ruling : Settings → Session → List ℕ → List ℕ → List ℕ → ℕ → Ruling
+ruling s h file string reply i =
+    pick (eqb (refusal s h file string reply) 0) (accepts s file i) (denied (refusal s h file string reply))

@@ -1,86 +1,157 @@
 -- Laws of what a call of a load refuses: what an accepted one says.
 use Prim.Native.Nat.{ℕ, _+_, _*_, _≤_, _<_}
-use mathlib.Core.Path.{_≡_, sym, _∙_}
-use mathlib.Core.Bool.{true, not, cond as pick}
-use mathlib.Core.List.{List}
+use mathlib.Core.Path.{_≡_, refl, sym, _∙_}
+use mathlib.Core.Bool.{Bool, true, false, not, _&&_, cond as pick}
+use mathlib.Core.List.{List, [], _∷_}
 use native.Mathlib.Omega.{arith}
 use native.Mathlib.Nat.{mul-le-mul}
-use lib.ListN.{length}
-use lib.Dec.{eqb}
-use borrow.Author.Tests.{leb-true, eqb-false, not-true, le-leb}
-use Rattle.octets.specs.TestLaws.{both}
-use Rattle.directory.specs.Directory.{addresses, demand, refusal as imageRefusal}
-use Rattle.image.specs.Image.{widest, cutRefusal}
+use lib.ListN.{length, length-append}
+use lib.Dec.{eqb, leb}
+use borrow.Author.Tests.{leb-true, leb-false, le-ltb, lt-ltb, eqb-true, eqb-false, not-true, le-leb, eq-eqb, ne-eqb}
+use Rattle.octets.specs.NumberLaws.{length-low}
+use Rattle.octets.specs.TestLaws.{by-cases, both}
+use Rattle.directory.specs.Directory.{addresses, trailer, regions, demand, refusal as imageRefusal}
+use Rattle.image.specs.Image.{many, segment, widest, cutRefusal}
 use Rattle.image.specs.Laws.{many-range}
+use Rattle.buffer.specs.Lay.{laid, refuse}
+use Rattle.message.specs.Message.{parameters}
+use Rattle.message.specs.Write.{entryList, layout, write}
+use Rattle.step.specs.Step.{unless, first}
 use Rattle.step.specs.Laws.{met, none}
 use Rattle.load_record.specs.declared.Settings.{Settings}
 use Rattle.load_record.specs.declared.Session.{Session}
-use Rattle.load_checks.specs.Checks.{frames, settled, consistent, refusal}
+use Rattle.load_checks.specs.declared.Ruling.{Ruling}
+use Rattle.load_checks.specs.Checks.{given, framesOf, frames, settled, consistent, longest, stringRefusal, refusal, denied, accepts, ruling}
 
 -- the settings are in range
 pub record Set (s : Settings) : Type 0 where
   pub some : 1 ≤ s .«segment_size»
   pub narrow : s .«segment_size» ≤ widest
   pub few : s .repeats ≤ 255
+  pub mark : s .«with_parameters» ≤ 1
 
 pub set : (s : Settings) → settled s ≡ true → Set s
 set s e =
     let all = both _ _ e in
-    let size = both _ _ (all .0) in
-    record { some = leb-true _ _ (size .0); narrow = leb-true _ _ (size .1); few = leb-true _ _ (all .1) }
+    let numbers = both _ _ (all .0) in
+    let size = both _ _ (numbers .0) in
+    record {
+      some = leb-true _ _ (size .0);
+      narrow = leb-true _ _ (size .1);
+      few = leb-true _ _ (numbers .1);
+      mark = leb-true _ _ (all .1);
+    }
 
 -- then the image alone decides how it is cut
 pub cut-image : (s : Settings) (file : List ℕ) → Set s → imageRefusal file ≡ cutRefusal file (s .«segment_size»)
 unfolding demand
 cut-image s file r = rw (le-leb 1 (s .«segment_size») (r .some), le-leb (s .«segment_size») widest (r .narrow))
 
--- N × (R + 1), the most frames of a load
-pub most-sent : (N R : ℕ) → N ≤ addresses → R ≤ 255 → N * (R + 1) ≤ 256 * addresses
-most-sent N R n r =
+-- a load has one frame more than segments at most, and no fewer
+pub frames-few : (s : Settings) (N : ℕ) → (N ≤ framesOf s N) × (framesOf s N ≤ N + 1)
+frames-few s N =
+    by-cases (λ (n : ℕ). (N ≤ n) × (n ≤ N + 1)) (given s) (λ _. (omega arith, omega arith)) (λ _. (omega arith, omega arith))
+
+-- n × (R + 1), the most frames sent by a load
+pub most-sent : (n R : ℕ) → n ≤ addresses + 1 → R ≤ 255 → n * (R + 1) ≤ 256 * (addresses + 1)
+most-sent n R h r =
     let few : R + 1 ≤ 256 = omega arith in
-    let most : N * (R + 1) ≤ addresses * 256 = mul-le-mul n few in
+    let most : n * (R + 1) ≤ (addresses + 1) * 256 = mul-le-mul h few in
     omega arith
 
--- the record agrees with N: while it runs a frame is on its way or yet to come
-pub record Fitting (N : ℕ) (s : Settings) (h : Session) : Type 0 where
-  pub reached : h .position ≤ N
-  pub counted : h .sent ≤ N * (s .repeats + 1)
-  pub goes : h .verdict ≡ 0 → h .position < N
+-- the record agrees with n: while it runs a frame is on its way or yet to come
+pub record Fitting (n : ℕ) (s : Settings) (h : Session) : Type 0 where
+  pub reached : h .position ≤ n
+  pub counted : h .sent ≤ n * (s .repeats + 1)
+  pub goes : h .verdict ≡ 0 → h .position < n
 
-pub fitting : (N : ℕ) (s : Settings) (h : Session) → consistent N s h ≡ true → Fitting N s h
-fitting N s h e =
+pub fitting : (n : ℕ) (s : Settings) (h : Session) → consistent n s h ≡ true → Fitting n s h
+fitting n s h e =
     let all = both _ _ e in
     let numbers = both _ _ (all .0) in
-    let verdict : pick (eqb (h .verdict) 1) (eqb (h .position) N) (not (eqb (h .position) N)) ≡ true = all .1 in
-    let reached : h .position ≤ N = leb-true _ _ (numbers .0) in
+    let verdict : pick (eqb (h .verdict) 1) (eqb (h .position) n) (not (eqb (h .position) n)) ≡ true = all .1 in
+    let reached : h .position ≤ n = leb-true _ _ (numbers .0) in
     record {
       reached = reached;
       counted = leb-true _ _ (numbers .1);
-      goes = λ v. let elsewhere : h .position ≡ N → ⊥ = eqb-false _ _ (not-true _ (rw v at verdict)) in omega arith;
+      goes = λ v. let elsewhere : h .position ≡ n → ⊥ = eqb-false _ _ (not-true _ (rw v at verdict)) in omega arith;
     }
 
--- What an accepted call says: the settings are in range, the reply buffer has room for any frame, the image is whole, and the
--- record agrees with N, which has 33 bits.
-pub record Accepted (s : Settings) (h : Session) (file reply : List ℕ) : Type 0 where
+-- a parameter string that is accepted: a writer lists its entries, and its frame has at most 1,500 bytes
+abbrev pub Whole : List ℕ → Type 0
+Whole string = (entryList string .listed ≡ true) × (length string ≤ longest)
+
+pub string-whole : (s : Settings) (string : List ℕ) → stringRefusal s string ≡ 0 → given s ≡ true → Whole string
+string-whole s string e g =
+    let r : first (unless (entryList string .listed) 4 ∷ unless (leb (length string) longest) 2 ∷ []) ≡ 0 = rw g at e in
+    let listed = none _ _ r in
+    let short = none _ _ (listed .1) in
+    (met _ 4 (omega arith) (listed .0), leb-true _ _ (met _ 2 (omega arith) (short .0)))
+
+-- what a load refuses of a string is what the writer of code 20 refuses of it, given a buffer of at least 1,500 bytes
+pub string-as-written : (s : Settings) (string : List ℕ) (number transfer : ℕ) (out : List ℕ) → given s ≡ true → 1500 ≤ length out
+    → stringRefusal s string ≡ write (parameters number string transfer) out .answer .refusal
+unfolding first write layout
+string-as-written s string number transfer out g h = rw g (go (entryList string .listed))
+  where
+    size : length (layout (parameters number string transfer)) ≡ length string + 7
+    size = simp (length-append, length-low) (omega arith)
+
+    laid-as : (b : Bool) → leb (length string) longest ≡ b → pick (eqb (pick b 0 2) 0) 0 (pick b 0 2) ≡ laid (layout (parameters number string transfer)) out .answer .refusal
+    laid-as true e =
+        let l = leb-true (length string) longest e in
+        rw (le-ltb 1500 (length (layout (parameters number string transfer))) (omega (arith, size)), le-ltb (length out) (length (layout (parameters number string transfer))) (omega (arith, size)))
+    laid-as false e =
+        let l = leb-false (length string) longest e in
+        rw (lt-ltb 1500 (length (layout (parameters number string transfer))) (omega (arith, size)))
+
+    go : (b : Bool) → pick (eqb (pick b 0 4) 0) (pick (eqb (pick (leb (length string) longest) 0 2) 0) 0 (pick (leb (length string) longest) 0 2)) (pick b 0 4)
+        ≡ pick (b && (true && (true && true))) (laid (layout (parameters number string transfer)) out) (refuse 4 out) .answer .refusal
+    go true = laid-as (leb (length string) longest) refl
+    go false = refl
+
+-- What an accepted call says: the settings are in range, the reply buffer has room for any frame, the image is whole, the record agrees with
+-- n, which has 33 bits, and so is the parameter string.
+pub record Accepted (s : Settings) (h : Session) (file string reply : List ℕ) : Type 0 where
   pub range : Set s
   pub room : 1500 ≤ length reply
   pub whole : cutRefusal file (s .«segment_size») ≡ 0
-  pub few : frames file (s .«segment_size») ≤ addresses
-  pub fits : Fitting (frames file (s .«segment_size»)) s h
+  pub few : frames s file ≤ addresses + 1
+  pub fits : Fitting (frames s file) s h
+  pub parameters : given s ≡ true → Whole string
 
-pub accepted : (s : Settings) (h : Session) (file reply : List ℕ) → refusal s h file reply ≡ 0 → Accepted s h file reply
-accepted s h file reply e =
+pub accepted : (s : Settings) (h : Session) (file string reply : List ℕ) → refusal s h file string reply ≡ 0 → Accepted s h file string reply
+accepted s h file string reply e =
     let settings = none _ _ e in
     let session = none _ _ (settings .1) in
     let buffer = none _ _ (session .1) in
     let image = none _ _ (buffer .1) in
-    let last = none _ _ (image .1) in
+    let count = none _ _ (image .1) in
+    let last = none _ _ (count .1) in
     let range = set s (met _ 10 (omega arith) (settings .0)) in
     let whole = sym (cut-image s file range) ∙ image .0 in
     record {
       range = range;
       room = leb-true _ _ (met _ 9 (omega arith) (buffer .0));
       whole = whole;
-      few = many-range file (s .«segment_size») whole .1;
-      fits = fitting (frames file (s .«segment_size»)) s h (met _ 10 (omega arith) (last .0));
+      few = omega (arith, many-range file (s .«segment_size») whole .1, frames-few s (many (s .«segment_size») (regions file)) .1);
+      fits = fitting (frames s file) s h (met _ 10 (omega arith) (count .0));
+      parameters = string-whole s string (last .0);
     }
+
+-- What a ruling says: a call's refusal; if it is 0, n, the image's transfer address and segment i.
+pub record Ruled (s : Settings) (h : Session) (file string reply : List ℕ) (i : ℕ) (k : Ruling) : Type 0 where
+  pub refused : k .refusal ≡ refusal s h file string reply
+  pub counted : k .refusal ≡ 0 → k .many ≡ frames s file
+  pub started : k .refusal ≡ 0 → k .transfer ≡ trailer file .transfer
+  pub reached : k .refusal ≡ 0 → k .segment ≡ segment (s .«segment_size») (regions file) i
+
+pub ruled : (s : Settings) (h : Session) (file string reply : List ℕ) (i : ℕ) {k : Ruling} → k ≡ ruling s h file string reply i → Ruled s h file string reply i k
+ruled s h file string reply i e = rw e (go (eqb (refusal s h file string reply) 0) refl)
+  where
+    go : (b : Bool) → eqb (refusal s h file string reply) 0 ≡ b → Ruled s h file string reply i (pick b (accepts s file i) (denied (refusal s h file string reply)))
+    go true z =
+        record { refused = sym (eqb-true _ _ z); counted = λ _. refl; started = λ _. refl; reached = λ _. refl }
+    go false z =
+        let ne = eqb-false _ _ z in
+        record { refused = refl; counted = λ n. absurd (ne n); started = λ n. absurd (ne n); reached = λ n. absurd (ne n) }

@@ -1,14 +1,14 @@
 // What a call of the host's end of a load refuses, but for its frame (PROTOCOL 5, 'Host end', and 7, 'Refusals').
 ghost use mathlib.Core.Path.{_≡_};
-ghost use Prim.Native.Nat.{_≤_};
+ghost use Prim.Native.Nat.{_+_, _≤_};
 ghost use Rattle.directory.specs.Directory.{addresses};
-ghost use Rattle.load_checks.specs.Checks.{blank, settled, sound, consistent, Ruled};
+ghost use Rattle.load_checks.specs.Checks.{blank, settled, sound, framesOf, consistent, stringRefusal, denied, ruling};
 use directory::Region;
 use load_record::Session;
 use load_record::Settings;
 
-// Whether a call is accepted, but for its frame: a refusal; or 0 with N, the image's transfer address, and the segment
-// that might go out.
+// Whether a call is accepted, but for its frame: a refusal; or 0 with n, the number of frames, the image's transfer address,
+// and the segment that might go out.
 pub struct Ruling {
     pub refusal: u8,
     pub many: u64,
@@ -26,7 +26,10 @@ fn settled(settings: Settings) -> bool
     if image::WIDEST < settings.segment_size {
         return false;
     }
-    settings.repeats <= 255
+    if 255 < settings.repeats {
+        return false;
+    }
+    settings.with_parameters <= 1
 }
 
 // Whether all numbers of a record are 0.
@@ -45,7 +48,7 @@ fn blank(session: Session) -> bool
     session.sent == 0
 }
 
-// Whether a record is sound, but for what needs N.
+// Whether a record is sound, but for what needs n.
 fn sound(settings: Settings, session: Session) -> bool
     ensures { λ r. ⌜ r ≡ sound settings session ⌝ }
 {
@@ -64,9 +67,20 @@ fn sound(settings: Settings, session: Session) -> bool
     true
 }
 
+// The number of frames: one for each segment, and one more for a parameter string.
+fn frames(settings: Settings, segments: u64) -> u64
+    requires { ⌜ segments ≤ addresses ⌝ }
+    ensures { λ r. ⌜ r ≡ framesOf settings segments ⌝ }
+{
+    if settings.with_parameters == 1 {
+        return segments + 1;
+    }
+    segments
+}
+
 // Whether a record is sound with so many frames.
 fn consistent(many: u64, settings: Settings, session: Session) -> bool
-    requires { ⌜ (many ≤ addresses) × (settings .repeats ≤ 255) ⌝ }
+    requires { ⌜ (many ≤ addresses + 1) × (settings .repeats ≤ 255) ⌝ }
     ensures { λ r. ⌜ r ≡ consistent many settings session ⌝ }
 {
     let limit = many * (settings.repeats as u64 + 1);
@@ -82,9 +96,25 @@ fn consistent(many: u64, settings: Settings, session: Session) -> bool
     session.position != many
 }
 
+// The parameter string's refusal, 0 for none.
+fn string_refusal(settings: Settings, parameters: &[u8]) -> u8
+    ensures { λ r. ⌜ r ≡ stringRefusal settings (now (parameters .entry)) ⌝ }
+{
+    if settings.with_parameters != 1 {
+        return 0;
+    }
+    if !writer_listed::listed(parameters) {
+        return 4;
+    }
+    if 1493 < parameters.len() {
+        return 2;
+    }
+    0
+}
+
 // A refusal of the call.
 fn denied(refusal: u8) -> Ruling
-    ensures { λ r. ⌜ r .refusal ≡ refusal ⌝ }
+    ensures { λ r. ⌜ r ≡ denied refusal ⌝ }
 {
     Ruling {
         refusal,
@@ -99,8 +129,15 @@ fn denied(refusal: u8) -> Ruling
 }
 
 // Whether a call is accepted, but for its frame; `index` is the segment that might go out.
-pub fn rule(settings: Settings, session: Session, file: &[u8], reply: &[u8], index: u64) -> Ruling
-    ensures { λ r. ⌜ Ruled settings session (now (file .entry)) (now (reply .entry)) index r ⌝ }
+pub fn rule(
+    settings: Settings,
+    session: Session,
+    file: &[u8],
+    parameters: &[u8],
+    reply: &[u8],
+    index: u64,
+) -> Ruling
+    ensures { λ r. ⌜ r ≡ ruling settings session (now (file .entry)) (now (parameters .entry)) (now (reply .entry)) index ⌝ }
 {
     if !settled(settings) {
         return denied(10);
@@ -115,13 +152,18 @@ pub fn rule(settings: Settings, session: Session, file: &[u8], reply: &[u8], ind
     if a.refusal != 0 {
         return denied(a.refusal);
     }
-    if !consistent(a.segments, settings, session) {
+    let many = frames(settings, a.segments);
+    if !consistent(many, settings, session) {
         return denied(10);
+    }
+    let wrong = string_refusal(settings, parameters);
+    if wrong != 0 {
+        return denied(wrong);
     }
     let segment = a.segment;
     Ruling {
         refusal: 0,
-        many: a.segments,
+        many,
         transfer: a.transfer,
         segment,
     }

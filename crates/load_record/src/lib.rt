@@ -1,13 +1,15 @@
 // The record of the host's end of a load, and its named updates (PROTOCOL 5, 'Host end').
 ghost use mathlib.Core.Path.{_≡_};
-ghost use Prim.Native.Nat.{_<_};
+ghost use Prim.Native.Nat.{_<_, _≤_};
 ghost use Rattle.load_record.specs.Record.{fresh, reached, repeated, ignores, goesOut, ends, more};
 
-// Its settings: S, the bytes of a segment, and R, the repeats allowed per frame.
+// Its settings: S, the bytes of a segment; R, the repeats allowed per frame; and whether a parameter string ends the load (1)
+// or not (0).
 #[repr(C)]
 pub struct Settings {
     pub segment_size: u32,
     pub repeats: u32,
+    pub with_parameters: u8,
 }
 
 // Its record: c, the frames answered; the frames sent; the repeats of the frame on its way; whether it still waits for a
@@ -53,7 +55,7 @@ pub fn reached(h: Session, position: u64) -> Session
 
 // One more repeat is used, if there is a number for it.
 pub fn repeated(h: Session) -> Session
-    ensures { λ r. ⌜ (h .repeats < 4294967295 → r ≡ repeated h) ⌝ }
+    ensures { λ r. ⌜ (h .repeats < 4294967295 → r ≡ repeated h) × (4294967295 ≤ h .repeats → r ≡ h) ⌝ }
 {
     if h.repeats == 4294967295 {
         return h;

@@ -26,7 +26,7 @@ use Rattle.machine_record.specs.declared.Machine.{Machine}
 use Rattle.machine_record.specs.Record.{is}
 use Rattle.machine_number.specs.Number.{heed}
 use Rattle.machine_next.specs.declared.Next.{Next}
-use Rattle.machine_next.specs.Next.{byNumber, onLoad, onDump, react, sending, does}
+use Rattle.machine_next.specs.Next.{byNumber, onLoad, onParameters, onDump, react, sending, keeps, does}
 use Rattle.machine.specs.Inner.{Short}
 
 -- ---- what is sent
@@ -51,6 +51,11 @@ module _ (s : Settings) (m : Machine) (memory : List ℕ) where
       by-cases P (fits address (length bytes) (length memory)) (λ _. (refl, omega arith)) (λ _. (refl, omega arith))) (λ _.
       by-cases P (eqb (heed m number) 2) (λ _. (refl, omega arith)) (λ _. tt))
 
+  parameters-short : (number : ℕ) (entries : List ℕ) (transfer : ℕ) → P (onParameters m number entries transfer memory)
+  unfolding onParameters byNumber layout P
+  parameters-short number entries transfer =
+      by-cases P (eqb (heed m number) 1) (λ _. (refl, omega arith)) (λ _. by-cases P (eqb (heed m number) 2) (λ _. (refl, omega arith)) (λ _. tt))
+
   dump-short : (address count : ℕ) → s .«reply_bytes» ≤ 1495 → P (onDump s m address count memory)
   unfolding layout P
   dump-short address count h =
@@ -65,9 +70,10 @@ module _ (s : Settings) (m : Machine) (memory : List ℕ) where
       let f = fields frame in
       by-cases P (eqb (f .code) 0) (λ _. load-short (f .number) (f .address) (part frame f) _) (λ _.
       by-cases P (eqb (f .code) 2) (λ _. load-short (f .number) (f .address) (part frame f) _) (λ _.
+      by-cases P (eqb (f .code) 20) (λ _. parameters-short (f .number) (part frame f) (f .transfer)) (λ _.
       by-cases P (eqb (f .code) 4) (λ _. dump-short (f .address) (f .count) h) (λ _.
       by-cases P (eqb (f .code) 1) (λ _. by-cases P (is 1 m) (λ _. tt) (λ _. tt)) (λ _.
-      by-cases P (eqb (f .code) 24) (λ e. by-cases P (is 0 m) (λ _. (refl, loop-part frame o z (eqb-true (f .code) 24 e))) (λ _. tt)) (λ _. tt)))))
+      by-cases P (eqb (f .code) 24) (λ e. by-cases P (is 0 m) (λ _. (refl, loop-part frame o z (eqb-true (f .code) 24 e))) (λ _. tt)) (λ _. tt))))))
 
 -- a message that goes out is what its writer gives
 pub goes-out : (m : Machine) (memory reply : List ℕ) (out : Sending) (what : Message) {answer : Written} {buffer : List ℕ} → out ≡ sends what → Short out
@@ -96,11 +102,11 @@ module _ (s : Settings) (m : Machine) (frame memory reply : List ℕ) (f : Field
   decided-short o z r =
       subst Short (sym (ap (λ (act : Act Machine (List ℕ)). act .sending) decided)) (react-short s m memory frame o (rw h at z) r)
 
-  -- what is sent, then what goes to memory, is what the machine does with the frame
+  -- what is kept and sent, then what goes to memory, is what the machine does with the frame
   pub decided-leaves : {m′ : Machine} {answer : Written} {memory′ reply′ : List ℕ}
-      → Leaves (gives (acts (next .machine) memory (sending f frame memory (next .sends))) reply) m′ answer memory reply′
+      → Leaves (gives (acts (keeps f frame next) memory (sending f frame memory (next .sends))) reply) m′ answer memory reply′
       → memory′ ≡ pick (next .takes) (deposited (part frame f) (f .address) memory) memory
       → Leaves (gives (react s m (fields frame) frame memory) reply) m′ answer memory′ reply′
   decided-leaves {m′} {answer} {memory′} {reply′} l e =
       subst (λ (act : Act Machine (List ℕ)). Leaves (gives act reply) m′ answer memory′ reply′) decided
-      (lent-changed (sending f frame memory (next .sends)) (next .machine) memory _ reply l e)
+      (lent-changed (sending f frame memory (next .sends)) (keeps f frame next) memory _ reply l e)

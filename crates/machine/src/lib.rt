@@ -9,6 +9,8 @@ ghost use Rattle.message.specs.Message.{loopedData};
 ghost use Rattle.message.specs.Read.{part};
 ghost use Rattle.message.specs.Write.{write};
 ghost use Rattle.step.specs.Step.{acts, gives, Leaves};
+ghost use Rattle.parameters.specs.Parameters.{kept};
+ghost use Rattle.machine_record.specs.Record.{keeping};
 ghost use Rattle.machine_next.specs.Next.{sending};
 ghost use Rattle.machine.specs.Machine.{machineFrame};
 ghost use Rattle.machine.specs.Inner.{Short};
@@ -60,6 +62,19 @@ fn send(
     }
 }
 
+// The machine, with what the frame's entries say if it keeps them.
+fn keep(machine: Machine, keeps: bool, f: Fields, frame: &[u8]) -> Machine
+    requires { ⌜ f .«data_at» + f .«data_length» ≤ length (now frame) ⌝ }
+    ensures { λ r. ⌜ r ≡ cond keeps (keeping machine (kept (part (now (frame .entry)) f))) machine ⌝ }
+{
+    if !keeps {
+        return machine;
+    }
+    let at = f.data_at;
+    let end = at + f.data_length;
+    machine_record::keeping(machine, parameters::keep(&frame[at..end]))
+}
+
 // The frame's data goes to memory if it is taken.
 fn store(takes: bool, f: Fields, frame: &[u8], memory: &mut [u8])
     requires { ⌜ f .«data_at» + f .«data_length» ≤ length (now frame) ⌝ }
@@ -93,7 +108,8 @@ pub fn frame(
     }
     let next = machine_next::react(settings, machine, f, memory.len());
     let sends = next.sends;
-    let stepped = send(next.machine, f, sends, frame, memory, reply);
+    let machine = keep(next.machine, next.keeps, f, frame);
+    let stepped = send(machine, f, sends, frame, memory, reply);
     store(next.takes, f, frame, memory);
     stepped
 }

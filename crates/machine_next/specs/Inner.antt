@@ -1,6 +1,6 @@
 -- What the functions inside the decision on a load answer, in numbers.
 use Prim.Native.Nat.{ℕ}
-use mathlib.Core.Bool.{Bool, true, false, cond as pick}
+use mathlib.Core.Bool.{Bool, false, not, cond as pick}
 use lib.Dec.{eqb}
 use Rattle.machine_record.specs.declared.Machine.{Machine}
 use Rattle.machine_record.specs.Record.{loading}
@@ -9,10 +9,12 @@ use Rattle.machine_next.specs.declared.Sends.the-variants.{Nothing, Load
 use Rattle.machine_next.specs.declared.Next.{Next}
 use Rattle.machine_next.specs.Next.{next}
 
--- a frame that is taken, and the number rule
-abbrev pub taken : ℕ → Bool → Machine → Next
-taken number fit fitted = pick fit (next fitted true (Load (after number) 0)) (next (loading (after number) 1) false (Load (after number) 1))
+-- a frame that is taken, of data or of entries, and the number rule
+abbrev pub taken : Machine → ℕ → Bool → Machine → Bool → Next
+taken m number fit fitted entries =
+    pick fit (next fitted (not entries) entries (Load (after number) 0))
+    (next (loading (m .parameters) (after number) 1) false false (Load (after number) 1))
 
 abbrev pub heeded : Machine → ℕ → Next → Next
 heeded m number n =
-    pick (eqb (heed m number) 1) n (pick (eqb (heed m number) 2) (next m false (Load (m .expected) (m .error))) (next m false Nothing))
+    pick (eqb (heed m number) 1) n (pick (eqb (heed m number) 2) (next m false false (Load (m .expected) (m .error))) (next m false false Nothing))

@@ -10,10 +10,11 @@ use Rattle.memory.specs.Memory.{fits, laid}
 use Rattle.message.specs.declared.Fields.{Fields}
 use Rattle.message.specs.Read.{part}
 use Rattle.machine_record.specs.declared.Machine.{Machine}
+use Rattle.machine_record.specs.Record.{started}
 use Rattle.machine_number.specs.Number.{heed}
 use Rattle.machine_next.specs.declared.Sends.the-variants.{Nothing, Load}
 use Rattle.machine_next.specs.declared.Next.{Next}
-use Rattle.machine_next.specs.Next.{byNumber, takenAs, onLoad, next, does}
+use Rattle.machine_next.specs.Next.{byNumber, takenAs, onLoad, onParameters, next, does}
 use Rattle.machine_next.specs.Inner.{taken, heeded}
 
 module _ (f : Fields) (frame memory : List ℕ) where
@@ -22,19 +23,30 @@ module _ (f : Fields) (frame memory : List ℕ) where
   chosen true x y = refl
   chosen false x y = refl
 
-  does-taken : (number : ℕ) (fit : Bool) (fitted : Machine) → fits (f .address) (length (part frame f)) (length memory) ≡ fit
-      → does f frame memory (taken number fit fitted) ≡ takenAs number fit fitted (laid (part frame f) (f .address) memory) memory
-  does-taken number true fitted e = rw e
-  does-taken number false fitted e = refl
+  does-taken : (m : Machine) (number : ℕ) (fit : Bool) (fitted : Machine) → fits (f .address) (length (part frame f)) (length memory) ≡ fit
+      → does f frame memory (taken m number fit fitted false) ≡ takenAs (m .parameters) number fit fitted (laid (part frame f) (f .address) memory) memory
+  does-taken m number true fitted e = rw e
+  does-taken m number false fitted e = refl
+
+  -- the number rule of a decision is the number rule of what it does
+  does-heeded : (m : Machine) (number : ℕ) (n : Next) → does f frame memory (heeded m number n) ≡ byNumber m number (does f frame memory n) memory
+  unfolding byNumber
+  does-heeded m number n =
+      let again : Next = next m false false (Load (m .expected) (m .error)) in
+      let nothing : Next = next m false false Nothing in
+      chosen (eqb (heed m number) 1) n (pick (eqb (heed m number) 2) again nothing) ∙ (rw (chosen (eqb (heed m number) 2) again nothing))
 
   pub does-load : (m : Machine) (number n size : ℕ) (fitted : Machine) → length (part frame f) ≡ n → length memory ≡ size
-      → does f frame memory (heeded m number (taken number (fits (f .address) n size) fitted)) ≡ onLoad m number (f .address) (part frame f) fitted memory
-  unfolding byNumber onLoad
+      → does f frame memory (heeded m number (taken m number (fits (f .address) n size) fitted false)) ≡ onLoad m number (f .address) (part frame f) fitted memory
+  unfolding onLoad
   does-load m number n size fitted p q =
-      let again : Next = next m false (Load (m .expected) (m .error)) in
-      let rest : Next = pick (eqb (heed m number) 2) again (next m false Nothing) in
-      chosen (eqb (heed m number) 1) (taken number (fits (f .address) n size) fitted) rest
-      ∙ (rw (chosen (eqb (heed m number) 2) again (next m false Nothing), does-taken number (fits (f .address) n size) fitted (rw (p, q)), p, q))
+      does-heeded m number (taken m number (fits (f .address) n size) fitted false)
+      ∙ (rw (does-taken m number (fits (f .address) n size) fitted (rw (p, q)), p, q))
+
+  pub does-parameters : (m : Machine) (number transfer : ℕ)
+      → does f frame memory (heeded m number (taken m number true (started (m .parameters) transfer) true)) ≡ onParameters m number (part frame f) transfer memory
+  unfolding onParameters
+  does-parameters m number transfer = does-heeded m number (taken m number true (started (m .parameters) transfer) true)
 
 -- a state of at most 1 is Idle or Offering
 pub idle-or-offering : (state : ℕ) → state ≤ 1 → (eqb state 0 || eqb state 1) ≡ true

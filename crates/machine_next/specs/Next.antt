@@ -1,6 +1,6 @@
 -- What the machine end does on a frame (PROTOCOL 4, 'Machine end').
 use Prim.Native.Nat.{ℕ, min}
-use mathlib.Core.Bool.{Bool, _||_, cond as pick}
+use mathlib.Core.Bool.{Bool, true, _||_, cond as pick}
 use mathlib.Core.List.{List}
 use lib.ListN.{length}
 use lib.Dec.{eqb}
@@ -11,7 +11,9 @@ use Rattle.message.specs.Read.{part}
 use Rattle.step.specs.Step.{Sending, nothing, sends, Act, acts, ignores}
 use Rattle.machine_record.specs.declared.Settings.{Settings}
 use Rattle.machine_record.specs.declared.Machine.{Machine}
-use Rattle.machine_record.specs.Record.{idle, loading, started, is}
+use Rattle.parameters.specs.declared.Parameters.{Parameters}
+use Rattle.parameters.specs.Parameters.{kept}
+use Rattle.machine_record.specs.Record.{idle, loading, started, keeping, is}
 use Rattle.machine_number.specs.Number.{after, heed}
 use Rattle.machine_next.specs.declared.Sends.{Sends}
 use Rattle.machine_next.specs.declared.Sends.the-variants.{Nothing, Load, Data, Looped}
@@ -24,17 +26,23 @@ byNumber m number taken memory =
     (pick (eqb (heed m number) 2) (acts m memory (sends (requestLoad (m .expected) (m .error))))
     (ignores m memory))
 
--- a frame that is taken: the reply has the number after it; if the frame does not fit, error 1, and nothing is written
-abbrev pub takenAs : ℕ → Bool → Machine → List ℕ → List ℕ → Act Machine (List ℕ)
-takenAs number fit fitted laid memory =
+-- a frame that is taken by a machine with these parameters: the reply has the number after it; if the frame does not fit, error 1, and
+-- nothing is written or kept
+abbrev pub takenAs : Parameters → ℕ → Bool → Machine → List ℕ → List ℕ → Act Machine (List ℕ)
+takenAs parameters number fit fitted laid memory =
     pick fit (acts fitted laid (sends (requestLoad (after number) 0)))
-    (acts (loading (after number) 1) memory (sends (requestLoad (after number) 1)))
+    (acts (loading parameters (after number) 1) memory (sends (requestLoad (after number) 1)))
 
 -- ---- a frame, by its code
 -- codes 0 and 2; `fitted` is the machine after a load that fits
 unfoldable pub onLoad : Machine → ℕ → ℕ → List ℕ → Machine → List ℕ → Act Machine (List ℕ)
 onLoad m number address bytes fitted memory =
-    byNumber m number (takenAs number (fits address (length bytes) (length memory)) fitted (laid bytes address memory) memory) memory
+    byNumber m number (takenAs (m .parameters) number (fits address (length bytes) (length memory)) fitted (laid bytes address memory) memory) memory
+
+-- code 20 always fits: it lays no bytes, and the machine is started and keeps what the entries say
+unfoldable pub onParameters : Machine → ℕ → List ℕ → ℕ → List ℕ → Act Machine (List ℕ)
+onParameters m number entries transfer memory =
+    byNumber m number (takenAs (m .parameters) number true (started (kept entries) transfer) memory memory) memory
 
 -- code 4, in Idle or Offering
 abbrev pub onDump : Settings → Machine → ℕ → ℕ → List ℕ → Act Machine (List ℕ)
@@ -44,7 +52,7 @@ onDump s m address count memory =
 
 -- code 1 ends Offering
 abbrev pub onComplete : Machine → List ℕ → Act Machine (List ℕ)
-onComplete m memory = pick (is 1 m) (acts idle memory nothing) (ignores m memory)
+onComplete m memory = pick (is 1 m) (acts (idle (m .parameters)) memory nothing) (ignores m memory)
 
 -- code 24, in Idle
 abbrev pub onLoop : Machine → ℕ → List ℕ → List ℕ → Act Machine (List ℕ)
@@ -52,12 +60,13 @@ onLoop m receipt bytes memory = pick (is 0 m) (acts m memory (sends (loopedData 
 
 abbrev pub react : Settings → Machine → Fields → List ℕ → List ℕ → Act Machine (List ℕ)
 react s m f frame memory =
-    pick (eqb (f .code) 0) (onLoad m (f .number) (f .address) (part frame f) (started (f .transfer)) memory)
-    (pick (eqb (f .code) 2) (onLoad m (f .number) (f .address) (part frame f) (loading (after (f .number)) 0) memory)
+    pick (eqb (f .code) 0) (onLoad m (f .number) (f .address) (part frame f) (started (m .parameters) (f .transfer)) memory)
+    (pick (eqb (f .code) 2) (onLoad m (f .number) (f .address) (part frame f) (loading (m .parameters) (after (f .number)) 0) memory)
+    (pick (eqb (f .code) 20) (onParameters m (f .number) (part frame f) (f .transfer) memory)
     (pick (eqb (f .code) 4) (onDump s m (f .address) (f .count) memory)
     (pick (eqb (f .code) 1) (onComplete m memory)
     (pick (eqb (f .code) 24) (onLoop m (f .receipt) (part frame f) memory)
-    (ignores m memory)))))
+    (ignores m memory))))))
 
 -- ---- the code's decision on a frame, in numbers
 -- what goes out
@@ -67,10 +76,14 @@ sending f frame memory (Load number error) = sends (requestLoad number error)
 sending f frame memory (Data n) = sends (dumpData (f .address) (bytesFrom memory (f .address) n))
 sending f frame memory Looped = sends (loopedData (f .receipt) (part frame f))
 
-abbrev pub next : Machine → Bool → Sends → Next
-next m takes out = record { machine = m; takes = takes; sends = out }
+abbrev pub next : Machine → Bool → Bool → Sends → Next
+next m takes keeps out = record { machine = m; takes = takes; keeps = keeps; sends = out }
 
--- what the decision does: the frame's data goes to memory, where it fits, if it is taken
+-- the machine, with what a frame's entries say if it keeps them
+abbrev pub keeps : Fields → List ℕ → Next → Machine
+keeps f frame n = pick (n .keeps) (keeping (n .machine) (kept (part frame f))) (n .machine)
+
+-- what the decision does: the frame's data goes to memory, where it fits, if it is taken; its entries go into the record, if they are kept
 abbrev pub does : Fields → List ℕ → List ℕ → Next → Act Machine (List ℕ)
 does f frame memory n =
-    acts (n .machine) (pick (n .takes) (deposited (part frame f) (f .address) memory) memory) (sending f frame memory (n .sends))
+    acts (keeps f frame n) (pick (n .takes) (deposited (part frame f) (f .address) memory) memory) (sending f frame memory (n .sends))

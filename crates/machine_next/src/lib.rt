@@ -22,55 +22,61 @@ pub enum Sends {
     Looped,
 }
 
-// What it does next: its state, whether the frame's data goes to memory, and what goes out.
+// What it does next: its record, whether the frame's data goes to memory, whether its entries go into the record, and what
+// goes out.
 pub struct Next {
     pub machine: Machine,
     pub takes: bool,
+    pub keeps: bool,
     pub sends: Sends,
 }
 
 // Nothing changes, and nothing goes out.
 fn ignored(machine: Machine) -> Next
-    ensures { λ r. ⌜ r ≡ next machine false Nothing ⌝ }
+    ensures { λ r. ⌜ r ≡ next machine false false Nothing ⌝ }
 {
     Next {
         machine,
         takes: false,
+        keeps: false,
         sends: Sends::Nothing,
     }
 }
 
-// A frame is taken; `fitted` is the machine after one that fits.
-fn taken(number: u8, fit: bool, fitted: Machine) -> Next
-    ensures { λ r. ⌜ r ≡ taken number fit fitted ⌝ }
+// A frame of data or of entries is taken; `fitted` is the machine after one that fits.
+fn taken(machine: Machine, number: u8, fit: bool, fitted: Machine, entries: bool) -> Next
+    ensures { λ r. ⌜ r ≡ taken machine number fit fitted entries ⌝ }
 {
     let reply = machine_number::after(number);
     if fit {
         return Next {
             machine: fitted,
-            takes: true,
+            takes: !entries,
+            keeps: entries,
             sends: Sends::Load(reply, 0),
         };
     }
     Next {
-        machine: machine_record::in_state(3, reply, 1, 0),
+        machine: machine_record::in_state(3, reply, 1, 0, machine.parameters),
         takes: false,
+        keeps: false,
         sends: Sends::Load(reply, 1),
     }
 }
 
-// Codes 0 and 2.
-fn on_load(machine: Machine, number: u8, fit: bool, fitted: Machine) -> Next
-    ensures { λ r. ⌜ r ≡ heeded machine number (taken number fit fitted) ⌝ }
+// Codes 0 and 2, with data, and 20, with entries.
+fn on_load(machine: Machine, number: u8, fit: bool, fitted: Machine, entries: bool) -> Next
+    ensures { λ r. ⌜ r ≡ heeded machine number (taken machine number fit fitted entries) ⌝ }
 {
     let heed = machine_number::heed(machine, number);
     if heed == 1 {
-        return taken(number, fit, fitted);
+        return taken(machine, number, fit, fitted, entries);
     }
     if heed == 2 {
         return Next {
             machine,
             takes: false,
+            keeps: false,
             sends: Sends::Load(machine.expected, machine.error),
         };
     }
@@ -79,7 +85,7 @@ fn on_load(machine: Machine, number: u8, fit: bool, fitted: Machine) -> Next
 
 // Code 4.
 fn on_dump(settings: Settings, machine: Machine, count: u16) -> Next
-    ensures { λ r. ⌜ r ≡ cond (is 0 machine || is 1 machine) (next machine false (Data (min count (settings .«reply_bytes»)))) (next machine false Nothing) ⌝ }
+    ensures { λ r. ⌜ r ≡ cond (is 0 machine || is 1 machine) (next machine false false (Data (min count (settings .«reply_bytes»)))) (next machine false false Nothing) ⌝ }
 {
     if 1 < machine.state {
         return ignored(machine);
@@ -88,23 +94,24 @@ fn on_dump(settings: Settings, machine: Machine, count: u16) -> Next
     Next {
         machine,
         takes: false,
+        keeps: false,
         sends: Sends::Data(n as usize),
     }
 }
 
 // Code 1: Offering ends.
 fn on_complete(machine: Machine) -> Next
-    ensures { λ r. ⌜ r ≡ cond (is 1 machine) (next idle false Nothing) (next machine false Nothing) ⌝ }
+    ensures { λ r. ⌜ r ≡ cond (is 1 machine) (next (idle (machine .parameters)) false false Nothing) (next machine false false Nothing) ⌝ }
 {
     if machine.state != 1 {
         return ignored(machine);
     }
-    ignored(machine_record::in_state(0, 0, 0, 0))
+    ignored(machine_record::in_state(0, 0, 0, 0, machine.parameters))
 }
 
 // Code 24: the same data comes back.
 fn on_loop(machine: Machine) -> Next
-    ensures { λ r. ⌜ r ≡ cond (is 0 machine) (next machine false Looped) (next machine false Nothing) ⌝ }
+    ensures { λ r. ⌜ r ≡ cond (is 0 machine) (next machine false false Looped) (next machine false false Nothing) ⌝ }
 {
     if machine.state != 0 {
         return ignored(machine);
@@ -112,6 +119,7 @@ fn on_loop(machine: Machine) -> Next
     Next {
         machine,
         takes: false,
+        keeps: false,
         sends: Sends::Looped,
     }
 }
@@ -129,7 +137,8 @@ pub fn react(settings: Settings, machine: Machine, f: Fields, size: usize) -> Ne
                 machine,
                 f.number,
                 fit,
-                machine_record::in_state(4, 0, 0, f.transfer),
+                machine_record::in_state(4, 0, 0, f.transfer, machine.parameters),
+                false,
             )
         }
         2 => {
@@ -138,8 +147,19 @@ pub fn react(settings: Settings, machine: Machine, f: Fields, size: usize) -> Ne
                 machine,
                 f.number,
                 fit,
-                machine_record::in_state(3, machine_number::after(f.number), 0, 0),
+                machine_record::in_state(
+                    3,
+                    machine_number::after(f.number),
+                    0,
+                    0,
+                    machine.parameters,
+                ),
+                false,
             )
+        }
+        20 => {
+            let fitted = machine_record::in_state(4, 0, 0, f.transfer, machine.parameters);
+            on_load(machine, f.number, true, fitted, true)
         }
         4 => on_dump(settings, machine, f.count),
         1 => on_complete(machine),

@@ -1,8 +1,9 @@
 // The machine end's settings and record (PROTOCOL 4, 'Machine end'), and what a step gives.
 ghost use mathlib.Core.Path.{_≡_};
 ghost use Rattle.buffer.specs.Lay.{refused};
-ghost use Rattle.machine_record.specs.Record.{inState};
+ghost use Rattle.machine_record.specs.Record.{inState, keeping};
 use buffer::Written;
+use parameters::Parameters;
 
 // Its settings: D, the most bytes of a dump reply; its device and processor.
 #[repr(C)]
@@ -12,14 +13,15 @@ pub struct Settings {
     pub processor: u8,
 }
 
-// Its state: 0 Idle, 1 Offering, 2 Requesting, 3 Loading, 4 Started; Loading's expected number and last reply's error, and
-// Started's transfer address.
+// Its state: 0 Idle, 1 Offering, 2 Requesting, 3 Loading, 4 Started; Loading's expected number and last reply's error,
+// Started's transfer address, and the parameters that a code 20 gave it.
 #[repr(C)]
 pub struct Machine {
     pub transfer: u32,
     pub state: u8,
     pub expected: u8,
     pub error: u8,
+    pub parameters: Parameters,
 }
 
 // What a step gives: the next state, and the length of the frame to send, 0 for none, or a refusal.
@@ -30,15 +32,35 @@ pub struct Stepped {
 }
 
 // A machine in a state.
-pub fn in_state(state: u8, expected: u8, error: u8, transfer: u32) -> Machine
-    ensures { λ r. ⌜ r ≡ inState state expected error transfer ⌝ }
+pub fn in_state(
+    state: u8,
+    expected: u8,
+    error: u8,
+    transfer: u32,
+    parameters: Parameters,
+) -> Machine
+    ensures { λ r. ⌜ r ≡ inState state expected error transfer parameters ⌝ }
 {
     Machine {
         transfer,
         state,
         expected,
         error,
+        parameters,
     }
+}
+
+// The same machine, with other parameters.
+pub fn keeping(machine: Machine, parameters: Parameters) -> Machine
+    ensures { λ r. ⌜ r ≡ keeping machine parameters ⌝ }
+{
+    in_state(
+        machine.state,
+        machine.expected,
+        machine.error,
+        machine.transfer,
+        parameters,
+    )
 }
 
 // Nothing is sent: refusal 0 for a step that is silent.

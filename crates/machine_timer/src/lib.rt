@@ -77,7 +77,7 @@ pub fn start_load(settings: Settings, memory: &[u8], reply: &mut [u8]) -> Steppe
 {
     timer(
         settings,
-        machine_record::in_state(2, 0, 0, 0),
+        machine_record::in_state(2, 0, 0, 0, parameters::none()),
         memory,
         reply,
     )
@@ -89,7 +89,7 @@ pub fn start_dump(settings: Settings, memory: &[u8], reply: &mut [u8]) -> Steppe
 {
     timer(
         settings,
-        machine_record::in_state(1, 0, 0, 0),
+        machine_record::in_state(1, 0, 0, 0, parameters::none()),
         memory,
         reply,
     )

@@ -105,15 +105,6 @@ with-id-written d f p form id proc info lp lf li =
     let size : length (front ++ (proc ∷ info)) - (5 + n + 1) ≡ length info = simp length-append (omega arith) in
     rw (lp, lf, li, le-ltb (length (front ++ (proc ∷ info))) (6 + n) long, take-at id (proc ∷ info) n refl, getD-at front proc info 0 (5 + n) at, next, behind, size, take-length info)
 
-parameters-written : (n : ℕ) (e : List ℕ) (t : ℕ) → walk Kind e ≡ Kind → t < 256 ^ 4
-    → said (layout (parameters n e t)) (judged 20 2 7 (layout (parameters n e t))) ≡ message (parameters n e t)
-unfolding layout low find
-parameters-written n e t k h =
-    let size : length (layout (parameters n e t)) - 7 ≡ length e = simp length-append (omega arith) in
-    let split : 20 ∷ n ∷ (e ++ (0 ∷ low 4 t)) ≡ (20 ∷ n ∷ (e ++ (0 ∷ []))) ++ low 4 t = rw (append-assoc e (0 ∷ []) (low 4 t)) in
-    let last : lastWord (layout (parameters n e t)) ≡ t = ap (λ (l : List ℕ). lastWord l) split ∙ last-word (20 ∷ n ∷ (e ++ (0 ∷ []))) t h in
-    rw (walk-ended e (low 4 t) k (length-low 4 t), last, size, take-at e (0 ∷ low 4 t) (length e) refl)
-
 accepted-end : (p : Place) → ended p ≡ 0 → p ≡ Transfer 0
 accepted-end Kind e = absurd (omega arith)
 accepted-end (Size kind) e = absurd (omega arith)
@@ -157,6 +148,19 @@ load-fields n a d h s =
 pub load-part : (n a : ℕ) (d : List ℕ) → take (length d) (drop 6 (layout (memoryLoad n a d))) ≡ d
 unfolding layout low
 load-part n a d = take-length d
+
+pub parameters-fields : (n : ℕ) (e : List ℕ) (t : ℕ) → entryList e .listed ≡ true → t < 256 ^ 4 → length (layout (parameters n e t)) ≤ 1500
+    → fields (layout (parameters n e t)) ≡ columns 0 20 n 0 0 0 0 0 0 0 0 0 0 t 0 2 (length e) 0 0
+unfolding layout find low
+parameters-fields n e t k h s =
+    let size : length (layout (parameters n e t)) - 7 ≡ length e = simp length-append (omega arith) in
+    let split : 20 ∷ n ∷ (e ++ (0 ∷ low 4 t)) ≡ (20 ∷ n ∷ (e ++ (0 ∷ []))) ++ low 4 t = rw (append-assoc e (0 ∷ []) (low 4 t)) in
+    let last : lastWord (layout (parameters n e t)) ≡ t = ap (λ (l : List ℕ). lastWord l) split ∙ last-word (20 ∷ n ∷ (e ++ (0 ∷ []))) t h in
+    by-row (parameters n e t) refl (simp length-append (omega arith)) s ∙ (rw (walk-ended e (low 4 t) (listed-whole e k) (length-low 4 t), last, size))
+
+pub parameters-part : (n : ℕ) (e : List ℕ) (t : ℕ) → take (length e) (drop 2 (layout (parameters n e t))) ≡ e
+unfolding layout low
+parameters-part n e t = take-at e (0 ∷ low 4 t) (length e) refl
 
 pub request-load-fields : (n e : ℕ) → fields (layout (requestLoad n e)) ≡ columns 0 10 n e 0 0 0 0 0 0 0 0 0 0 0 0 0 0 0
 unfolding layout find
@@ -215,8 +219,7 @@ read-written (dumpData a d) h l s = read-as (layout (dumpData a d)) (dump-data-f
 read-written dumpComplete h l s = read-as (layout dumpComplete) dump-complete-fields
 read-written volunteer h l s = read-as (layout volunteer) (by-row volunteer refl (omega arith) (omega arith))
 read-written (parameters n e t) h l s =
-    read-as (layout (parameters n e t)) (by-row (parameters n e t) refl (simp length-append (omega arith)) s)
-    ∙ parameters-written n e t (listed-whole e (both (entryList e .listed) true l .0)) (sized t 4 true h .0)
+    read-as (layout (parameters n e t)) (parameters-fields n e t (both (entryList e .listed) true l .0) (sized t 4 true h .0) s) ∙ (rw (parameters-part n e t))
 read-written (loopData r d) h l s =
     let size : length (layout (loopData r d)) - 3 ≡ length d = omega arith in
     read-as (layout (loopData r d)) (by-row (loopData r d) refl (omega arith) s) ∙ (rw (number-low 2 r (sized r 2 true h .0), size, take-length d))

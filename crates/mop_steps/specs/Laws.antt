@@ -10,12 +10,11 @@ use lib.Dec.{eqb, ltb, leb}
 use borrow.Author.Tests.{eqb-true, eqb-false}
 use Rattle.octets.specs.TestLaws.{by-cases}
 use Rattle.message.specs.declared.Fields.{Fields}
-use Rattle.message.specs.Message.{Message, memoryLoadTransfer, memoryLoad, requestLoad, requestDump, dumpData, dumpComplete, loopData, loopedData, requestProgram, requestDumpService}
+use Rattle.message.specs.Message.{Message, requestLoad, requestDump, dumpData, dumpComplete, loopData, loopedData, requestProgram, requestDumpService}
 use Rattle.message.specs.Read.{fields, part}
 use Rattle.message.specs.Write.{layout}
+use Rattle.message.specs.Laws.{begins}
 use Rattle.memory.specs.Memory.{fits, bytesFrom}
-use Rattle.directory.specs.Directory.{trailer}
-use Rattle.image.specs.Image.{segmentOf}
 use Rattle.step.specs.Step.{Sending, nothing, sends, Act, first, acts, ignores, gives, call}
 use Rattle.machine_record.specs.declared.Settings.{Settings as MachineSettings}
 use Rattle.machine_record.specs.declared.Machine.{Machine}
@@ -64,37 +63,26 @@ module _ {H B : Type 0} (mark : H → ℕ) (h : H) (lent : B) (reply : List ℕ)
   called n a g = by-cases (Seen mark h lent reply) (eqb n 0) (λ _. g) (λ e z. absurd (eqb-false n 0 e z))
 
 -- ---- the host's load
-module _ (s : LoadSettings) (h : LoadSession) (file reply : List ℕ) where
-  abbrev S : ℕ
-  S = s .«segment_size»
-
+module _ (s : LoadSettings) (h : LoadSession) (file string reply : List ℕ) where
   abbrev N : ℕ
-  N = loadChecks.frames file S
+  N = loadChecks.frames s file
 
   abbrev P : LoadNext → Type 0
-  P next = Seen loadVerdict h tt reply (gives (loads.does file S next) reply)
+  P next = Seen loadVerdict h tt reply (gives (loads.does s file string next) reply)
 
   stays : P (load.ignores h)
   stays _ _ _ = refl
 
-  frame-long : (i : ℕ) → 0 < length (layout (loads.segmentMessage file S i))
-  unfolding layout
-  frame-long i =
-      let p = segmentOf file S i in
-      by-cases (λ (m : Message). 0 < length (layout m)) (eqb (i + 1) N)
-      {x = memoryLoadTransfer (i % 256) (p .address) (p .bytes) (trailer file .transfer)} {y = memoryLoad (i % 256) (p .address) (p .bytes)}
-      (λ _. omega arith) (λ _. omega arith)
-
   goes : (r : LoadSession) → P (load.goesOut r)
-  goes r = sent-seen loadVerdict h tt reply (loads.raised r) tt (loads.segmentMessage file S (r .position)) (frame-long (r .position))
+  goes r = sent-seen loadVerdict h tt reply (loads.raised r) tt (loads.frameMessage s file string (r .position)) (begins (loads.frameMessage s file string (r .position)))
 
   ends : (r : LoadSession) (n : ℕ) → eqb (h .verdict) 0 ≡ true → 0 < n → P (load.ends r n)
   ends r n v p _ _ e = absurd (omega (arith, eqb-true (h .verdict) 0 v))
 
-  pub load-frame-seen : (frame : List ℕ) → Seen loadVerdict h tt reply (loadFrame s h file frame reply)
+  pub load-frame-seen : (frame : List ℕ) → Seen loadVerdict h tt reply (loadFrame s h file string frame reply)
   load-frame-seen frame =
       let f = fields frame in
-      called loadVerdict h tt reply (first (loadChecks.refusal s h file reply ∷ f .refusal ∷ [])) (loads.does file S (loadNext.react N h f))
+      called loadVerdict h tt reply (first (loadChecks.refusal s h file string reply ∷ f .refusal ∷ [])) (loads.does s file string (loadNext.react N h f))
       (by-cases P (eqb (h .verdict) 0) (λ v.
       by-cases P (eqb (f .code) 8) (λ _. by-cases P (eqb (h .waiting) 1 && eqb (f .program) 2) (λ _. goes (load.reached h 0)) (λ _. stays)) (λ _.
       by-cases P (eqb (f .code) 10) (λ _.
@@ -104,9 +92,9 @@ module _ (s : LoadSettings) (h : LoadSession) (file reply : List ℕ) where
       ends h 2 v (omega arith))) (λ _. stays)) (λ _. stays)))
       (λ _. stays))
 
-  pub load-timer-seen : Seen loadVerdict h tt reply (loadTimer s h file reply)
+  pub load-timer-seen : Seen loadVerdict h tt reply (loadTimer s h file string reply)
   load-timer-seen =
-      called loadVerdict h tt reply (loadChecks.refusal s h file reply) (loads.does file S (onLoadTimer N (s .repeats) h))
+      called loadVerdict h tt reply (loadChecks.refusal s h file string reply) (loads.does s file string (onLoadTimer N (s .repeats) h))
       (by-cases P (eqb (h .verdict) 0) (λ v.
       by-cases P (eqb (h .waiting) 0) (λ _.
       by-cases P (ltb (h .repeats) (s .repeats)) (λ _. goes (load.repeated h)) (λ _.
@@ -213,20 +201,27 @@ module _ (s : MachineSettings) (m : Machine) (memory reply : List ℕ) where
       by-cases M (fits address (length bytes) (length memory)) (λ _. replies _ _ (machineNumber.after number) 0) (λ _. replies _ _ (machineNumber.after number) 1)) (λ _.
       by-cases M (eqb (machineNumber.heed m number) 2) (λ _. replies m memory (m .expected) (m .error)) (λ _. idles))
 
+  given : (number : ℕ) (entries : List ℕ) (transfer : ℕ) → M (machineNext.onParameters m number entries transfer memory)
+  unfolding machineNext.onParameters machineNext.byNumber
+  given number entries transfer =
+      by-cases M (eqb (machineNumber.heed m number) 1) (λ _. replies _ _ (machineNumber.after number) 0) (λ _.
+      by-cases M (eqb (machineNumber.heed m number) 2) (λ _. replies m memory (m .expected) (m .error)) (λ _. idles))
+
   pub machine-frame-seen : (frame : List ℕ) → Seen machineState m memory reply (machineFrame s m frame memory reply)
   unfolding layout
   machine-frame-seen frame =
       let f = fields frame in
       let bytes = part frame f in
       called machineState m memory reply (first (machineChecks.refusal s m (length memory) (length reply) ∷ f .refusal ∷ [])) (machineNext.react s m f frame memory)
-      (by-cases M (eqb (f .code) 0) (λ _. loaded (f .number) (f .address) bytes (machine.started (f .transfer))) (λ _.
-      by-cases M (eqb (f .code) 2) (λ _. loaded (f .number) (f .address) bytes (machine.loading (machineNumber.after (f .number)) 0)) (λ _.
+      (by-cases M (eqb (f .code) 0) (λ _. loaded (f .number) (f .address) bytes (machine.started (m .parameters) (f .transfer))) (λ _.
+      by-cases M (eqb (f .code) 2) (λ _. loaded (f .number) (f .address) bytes (machine.loading (m .parameters) (machineNumber.after (f .number)) 0)) (λ _.
+      by-cases M (eqb (f .code) 20) (λ _. given (f .number) bytes (f .transfer)) (λ _.
       by-cases M (eqb (f .code) 4) (λ _.
       by-cases M (machine.is 0 m || machine.is 1 m) (λ _. sent-seen machineState m memory reply m memory (dumpData (f .address) (bytesFrom memory (f .address) (min (f .count) (s .«reply_bytes»)))) (omega arith)) (λ _. idles)) (λ _.
       by-cases M (eqb (f .code) 1) (λ _. by-cases M (machine.is 1 m) (λ v _ _ e. absurd (omega (arith, eqb-true (m .state) 1 v))) (λ _. idles)) (λ _.
       by-cases M (eqb (f .code) 24) (λ _.
       by-cases M (machine.is 0 m) (λ _. sent-seen machineState m memory reply m memory (loopedData (f .receipt) bytes) (omega arith)) (λ _. idles)) (λ _.
-      idles))))))
+      idles)))))))
 
   pub machine-timer-seen : Seen machineState m memory reply (machineTimer s m memory reply)
   unfolding layout

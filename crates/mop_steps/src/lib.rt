@@ -73,12 +73,13 @@ pub extern "C" fn mop_load_frame(
     settings: load_record::Settings,
     session: load_record::Session,
     file: &[u8],
+    parameters: &[u8],
     frame: &[u8],
     reply: &mut [u8],
 ) -> load::Stepped
-    ensures { λ r. ⌜ Leaves (loadFrame settings session (now (file .entry)) (now (frame .entry)) (now (reply .entry))) (r .session) (r .answer) tt (now (reply .exit)) ⌝ }
+    ensures { λ r. ⌜ Leaves (loadFrame settings session (now (file .entry)) (now (parameters .entry)) (now (frame .entry)) (now (reply .entry))) (r .session) (r .answer) tt (now (reply .exit)) ⌝ }
 {
-    load::frame(settings, session, file, frame, reply)
+    load::frame(settings, session, file, parameters, frame, reply)
 }
 
 #[no_mangle]
@@ -86,11 +87,12 @@ pub extern "C" fn mop_load_timer(
     settings: load_record::Settings,
     session: load_record::Session,
     file: &[u8],
+    parameters: &[u8],
     reply: &mut [u8],
 ) -> load::Stepped
-    ensures { λ r. ⌜ Leaves (loadTimer settings session (now (file .entry)) (now (reply .entry))) (r .session) (r .answer) tt (now (reply .exit)) ⌝ }
+    ensures { λ r. ⌜ Leaves (loadTimer settings session (now (file .entry)) (now (parameters .entry)) (now (reply .entry))) (r .session) (r .answer) tt (now (reply .exit)) ⌝ }
 {
-    load::timer(settings, session, file, reply)
+    load::timer(settings, session, file, parameters, reply)
 }
 
 // The host's dump: mop_dump of the header.

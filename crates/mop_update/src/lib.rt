@@ -11,12 +11,13 @@ pub extern "C" fn mop_load_update_frame(
     settings: load_record::Settings,
     session: &mut load_record::Session,
     file: &[u8],
+    parameters: &[u8],
     frame: &[u8],
     reply: &mut [u8],
 ) -> Written
-    ensures { λ r. ⌜ Leaves (loadFrame settings (now (session .entry)) (now (file .entry)) (now (frame .entry)) (now (reply .entry))) (now (session .exit)) r tt (now (reply .exit)) ⌝ }
+    ensures { λ r. ⌜ Leaves (loadFrame settings (now (session .entry)) (now (file .entry)) (now (parameters .entry)) (now (frame .entry)) (now (reply .entry))) (now (session .exit)) r tt (now (reply .exit)) ⌝ }
 {
-    let r = load::frame(settings, *session, file, frame, reply);
+    let r = load::frame(settings, *session, file, parameters, frame, reply);
     *session = r.session;
     r.answer
 }
@@ -26,11 +27,12 @@ pub extern "C" fn mop_load_update_timer(
     settings: load_record::Settings,
     session: &mut load_record::Session,
     file: &[u8],
+    parameters: &[u8],
     reply: &mut [u8],
 ) -> Written
-    ensures { λ r. ⌜ Leaves (loadTimer settings (now (session .entry)) (now (file .entry)) (now (reply .entry))) (now (session .exit)) r tt (now (reply .exit)) ⌝ }
+    ensures { λ r. ⌜ Leaves (loadTimer settings (now (session .entry)) (now (file .entry)) (now (parameters .entry)) (now (reply .entry))) (now (session .exit)) r tt (now (reply .exit)) ⌝ }
 {
-    let r = load::timer(settings, *session, file, reply);
+    let r = load::timer(settings, *session, file, parameters, reply);
     *session = r.session;
     r.answer
 }

@@ -1,7 +1,7 @@
 -- The theorem has instances: the worked input of PROTOCOL 8, 'Rehearsal' is accepted, its verdict is 1, and so its image is loaded.
 use Prim.Native.Nat.{ℕ}
 use mathlib.Core.Path.{_≡_, refl}
-use mathlib.Core.List.{List}
+use mathlib.Core.List.{List, []}
 use Rattle.bytes.specs.Bytes.{indexOf}
 use Rattle.octets.specs.Number.{number, low}
 use Rattle.memory.specs.Memory.{fits}
@@ -18,7 +18,7 @@ use Rattle.hexadecimal.specs.Hexadecimal.{hexadecimal}
 use Rattle.script.specs.Script.{only}
 use Rattle.rehearse.specs.Rehearse.{after}
 use Rattle.link_load.specs.Report.{Loaded}
-use Rattle.rehearse_link.specs.Rehearsed.{Accepted, image, zeros, ended, worldAtEnd}
+use Rattle.rehearse_link.specs.Rehearsed.{Accepted, settings, image, zeros, ended, worldAtEnd}
 use Rattle.rehearse_link.specs.Theorem.{loaded}
 
 abbrev worked : List ℕ
@@ -32,5 +32,5 @@ pub finished : ended worked .ends .session .verdict ≡ 1
 unfolding indexOf only areDigits value nibble hexadecimal number low find fields layout first trailerOf entryOf entries demand entriesRefusal many segment fits byNumber onLoad after
 finished = refl
 
-pub worked-loaded : Loaded (image worked) (zeros worked) (worldAtEnd worked .machine)
+pub worked-loaded : Loaded (settings worked .host) (image worked) [] (zeros worked) (worldAtEnd worked .machine)
 worked-loaded = loaded worked accepted finished

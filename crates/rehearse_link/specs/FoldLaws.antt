@@ -24,6 +24,7 @@ use Rattle.link_load.specs.Model.{loadEnds, freshWorld}
 use Rattle.link_load.specs.Audit.{bounded-load, bounded-never-refused}
 use Rattle.rehearse_link.specs.Ring.{framesFrom, frames, Ring}
 use Rattle.rehearse_link.specs.World.{world, eventAt, eventsOf}
+use Rattle.rehearse_link.specs.TurnLaws.{no-string}
 use Rattle.rehearse_link.specs.StepLaws.{Room, steps}
 
 run-joined : {H M : Type 0} (ends : Ends H M ⊥) (w : World H M) (es fs : List (Event ⊥))
@@ -44,15 +45,15 @@ empty-ring =
     }
 
 module _ (s : Setup) (file old : List ℕ) (ok : cutRefusal file (s .host .«segment_size») ≡ 0) (o : Octets file) (few : s .host .repeats ≤ 255)
-    (fresh : machineChecks.refusal (s .machine) machine.requesting (length old) 1500 ≡ 0) where
+    (mark : s .host .«with_parameters» ≤ 1) (fresh : machineChecks.refusal (s .machine) machine.requesting (length old) 1500 ≡ 0) where
   abbrev ends : Ends Session End ⊥
-  ends = loadEnds (s .host) (s .machine) file
+  ends = loadEnds (s .host) (s .machine) file []
 
   abbrev reached : List (Event ⊥) → World Session End
   reached es = runWithin 16 ends (freshWorld (s .machine) old) es
 
   unrefused : (es : List (Event ⊥)) → Unrefused ends (reached es)
-  unrefused es = bounded-never-refused (s .host) (s .machine) file old ok o few fresh 16 es
+  unrefused es = bounded-never-refused (s .host) (s .machine) file [] old ok o (no-string (s .host)) few mark fresh 16 es
 
   -- ---- letters in turn
   folds : (es : List (Event ⊥)) (r : Run) → Room r → (k : ℕ) → reached es ≡ world k r → (letters : List ℕ)
@@ -106,7 +107,7 @@ module _ (s : Setup) (file old : List ℕ) (ok : cutRefusal file (s .host .«seg
     whole letters =
         let r = begin s blank .run in
         let x = folds [] r (begins .0) (begins .1 .0) (begins .1 .1) letters in
-        let c = bounded-load (s .host) (s .machine) file old ok o 16 (eventsOf s file r letters) .counted in
+        let c = bounded-load (s .host) (s .machine) file [] old ok o (no-string (s .host)) 16 (eventsOf s file r letters) .counted in
         let same : after s file r letters .ends .session .sent ≡ x .0 =
         ap (λ (w : World Session End). w .host .sent) (sym (x .1)) ∙ c ∙ ap (λ (w : World Session End). w .taken) (x .1) in
         x .1 ∙ ap (λ (n : ℕ). world n (after s file r letters)) (sym same)

@@ -61,6 +61,7 @@ pub record Ready (input : List ℕ) (r : Reading) : Type 0 where
   pub image : cutRefusal (fileOf r) (r .job .setup .host .«segment_size») ≡ 0
   pub octets : Octets (fileOf r)
   pub few : r .job .setup .host .repeats ≤ 255
+  pub mark : r .job .setup .host .«with_parameters» ≤ 1
   pub settings : refusal (r .job .setup .machine) requesting (r .job .script .memory) 1500 ≡ 0
   pub letters : only events (lettersOf input (r .job)) ≡ true
 
@@ -85,6 +86,7 @@ ready input space =
           image = image-whole (bytesOf (imageIn input t space)) (t .«segment_size») z;
           octets = laid-octets (hexadecimal (take (t .«image_length») (drop (t .«image_at») input))) space (spells (take (t .«image_length») (drop (t .«image_at») input)));
           few = a .repeats-most;
+          mark = omega arith;
           settings = accepts t (t .memory) (a .memory-most);
           letters = a .events-are;
         }

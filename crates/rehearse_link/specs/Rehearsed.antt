@@ -1,7 +1,7 @@
 -- What the theorem speaks of: an input's settings, image, memory and events, and the rehearsal after its last letter.
 use Prim.Native.Nat.{ℕ}
 use mathlib.Core.Path.{_≡_}
-use mathlib.Core.List.{List}
+use mathlib.Core.List.{List, []}
 use lib.ListN.{replicate}
 use Rattle.load_record.specs.declared.Session.{Session}
 use Rattle.job.specs.declared.Setup.{Setup}
@@ -41,7 +41,7 @@ module _ (input : List ℕ) where
   -- ---- the same on the link: its ends, its fresh world, its events, and the world that the rehearsal ends in, whose count of host
   -- frames is the host's own
   abbrev pub ends : Ends Session End ⊥
-  ends = loadEnds (settings .host) (settings .machine) image
+  ends = loadEnds (settings .host) (settings .machine) image []
 
   abbrev pub freshEnds : World Session End
   freshEnds = freshWorld (settings .machine) zeros

@@ -70,9 +70,9 @@ left-none : (q : Queue) → q .many ≡ 0 → leave q .many ≡ 0
 left-none q e = rw (eq-eqb (q .many) 0 e) e
 
 module _ (s : Setup) (file : List ℕ) (narrow : s .host .«segment_size» ≤ widest) (r : Run) (room : Room r) (n : ℕ)
-    (u : Unrefused (loadEnds (s .host) (s .machine) file) (world n r)) where
+    (u : Unrefused (loadEnds (s .host) (s .machine) file []) (world n r)) where
   abbrev ends : link.Ends Session End ⊥
-  ends = loadEnds (s .host) (s .machine) file
+  ends = loadEnds (s .host) (s .machine) file []
 
   abbrev w : World Session End
   w = world n r
@@ -86,9 +86,6 @@ module _ (s : Setup) (file : List ℕ) (narrow : s .host .«segment_size» ≤ w
   abbrev h : Session
   h = r .ends .session
 
-  abbrev S : ℕ
-  S = s .host .«segment_size»
-
   abbrev from-host : Queue
   from-host = r .ends .«from_host»
 
@@ -100,7 +97,7 @@ module _ (s : Setup) (file : List ℕ) (narrow : s .host .«segment_size» ≤ w
   machineRefusal = machineChecks.refusal (s .machine) m (length (r .memory)) (length b)
 
   abbrev hostRefusal : ℕ
-  hostRefusal = load-checks.refusal (s .host) h file b
+  hostRefusal = load-checks.refusal (s .host) h file [] b
 
   room-left : 1500 ≤ length (r .reply)
   room-left = omega (arith, room .reply)
@@ -180,9 +177,9 @@ module _ (s : Setup) (file : List ℕ) (narrow : s .host .«segment_size» ≤ w
 
   host-timed : P (hostMoves r (hostTimed (s .host) file r)) (own (link.hostTimer b) ∷ [])
   host-timed =
-      let next = load-timer.onTimer (load-checks.frames file S) (s .host .repeats) h in
-      let a = load.does file S next in
-      host-acts (hostTimed (s .host) file r) a (given hostEnd hostRefusal h tt b a (u .hostTimer b room-left)) (host-short file S next narrow) from-machine (room .machines) (link.hostTimer b) refl
+      let next = load-timer.onTimer (load-checks.frames (s .host) file) (s .host .repeats) h in
+      let a = load.does (s .host) file [] next in
+      host-acts (hostTimed (s .host) file r) a (given hostEnd hostRefusal h tt b a (u .hostTimer b room-left)) (host-short (s .host) file next narrow) from-machine (room .machines) (link.hostTimer b) refl
 
   -- ---- the first frame of a queue, handed over: the end acts on it, if there is one
   abbrev first-host : Frame
@@ -233,12 +230,12 @@ module _ (s : Setup) (file : List ℕ) (narrow : s .host .«segment_size» ≤ w
       some : 0 < from-machine .many → P (hostStep (hostHanded (s .host) file r) q) (own e ∷ [])
       some z =
           let f = first-machine in
-          let react : Fields → Act Session Unit = λ x. load.does file S (load-next.react (load-checks.frames file S) h x) in
+          let react : Fields → Act Session Unit = λ x. load.does (s .host) file [] (load-next.react (load-checks.frames (s .host) file) h x) in
           let accepted = u .hostFrame f (frames (leave from-machine) (r .machinePlaces)) b (leaves from-machine (r .machinePlaces) z) room-left in
           let bytes : length f ≡ 0 → ⊥ = λ k. accepted (no-bytes hostEnd hostRefusal f h tt b react k) in
-          let handed : hostHanded (s .host) file r ≡ loadFrame (s .host) h file f b = rw (ne-eqb (length f) 0 bytes) in
+          let handed : hostHanded (s .host) file r ≡ loadFrame (s .host) h file [] f b = rw (ne-eqb (length f) 0 bytes) in
           host-acts (hostHanded (s .host) file r) (react (fields f)) (handed ∙ given hostEnd (first (hostRefusal ∷ fields f .refusal ∷ [])) h tt b (react (fields f)) accepted)
-          (host-short file S (load-next.react (load-checks.frames file S) h (fields f)) narrow) q g e
+          (host-short (s .host) file (load-next.react (load-checks.frames (s .host) file) h (fields f)) narrow) q g e
           (with-one z ∙ ap (λ (x : Outcome Session Unit). hostTurn w (frames q (r .machinePlaces)) (turned hostEnd x)) (sym handed))
 
   -- ---- it leaves, or is kept

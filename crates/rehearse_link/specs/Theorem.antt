@@ -7,7 +7,7 @@
 --     loaded      verdict 1: the machine holds the program, and no other byte of memory changed
 use Prim.Native.Nat.{ℕ}
 use mathlib.Core.Path.{_≡_, ap, sym, subst, _∙_}
-use mathlib.Core.List.{List, _++_, append-assoc}
+use mathlib.Core.List.{List, [], _++_, append-assoc}
 use lib.ListN.{length, replicate, length-replicate}
 use borrow.Author.Tests.{eq-eqb}
 use Rattle.machine_record.specs.Record as machine
@@ -22,6 +22,7 @@ use Rattle.link.specs.MachineEnd.{End}
 use Rattle.link_load.specs.Report.{Report, Loaded}
 use Rattle.link_load.specs.Audit.{bounded-load, bounded-finished}
 use Rattle.rehearse_link.specs.Rehearsed.{asked, Accepted, settings, image, zeros, begun, ended, ends, freshEnds, events, worldAtEnd}
+use Rattle.rehearse_link.specs.TurnLaws.{no-string}
 use Rattle.rehearse_link.specs.LetterLaws as letter
 use Rattle.rehearse_link.specs.InputLaws.{Ready, ready}
 use Rattle.rehearse_link.specs.FoldLaws.{empty-ring, whole, last}
@@ -35,7 +36,7 @@ module _ (input : List ℕ) (a : Accepted input) where
       let size : length (zeros input) ≡ asked input .job .script .memory = length-replicate {A = ℕ} (asked input .job .script .memory) 0 in
       let fit : machineChecks.refusal (settings input .machine) machine.requesting (length (zeros input)) 1500 ≡ 0 =
       ap (λ (n : ℕ). machineChecks.refusal (settings input .machine) machine.requesting n 1500) size ∙ accepted .settings in
-      whole (settings input) (image input) (zeros input) (accepted .image) (accepted .octets) (accepted .few) fit places places (replicate 1500 0) empty-ring empty-ring
+      whole (settings input) (image input) (zeros input) (accepted .image) (accepted .octets) (accepted .few) (accepted .mark) fit places places (replicate 1500 0) empty-ring empty-ring
       (length-replicate {A = ℕ} 1500 0) (lettersOf input (asked input .job))
 
   pub one-each : length (events input) ≡ length (lettersOf input (asked input .job))
@@ -52,12 +53,12 @@ module _ (input : List ℕ) (a : Accepted input) where
         (rw (eq-eqb (asked input .job .refusal) 0 a)) ∙ ap (λ (l : List ℕ). beginLine t ++ l) (x .1) ∙ sym (append-assoc (beginLine t) (x .0) (endLine (ended input .ends) (ended input .memory))),
       )
 
-  pub reported : Report (settings input .host) (image input) (zeros input) (worldAtEnd input)
+  pub reported : Report (settings input .host) (image input) [] (zeros input) (worldAtEnd input)
   reported =
-      subst (Report (settings input .host) (image input) (zeros input)) linked
-      (bounded-load (settings input .host) (settings input .machine) (image input) (zeros input) (accepted .image) (accepted .octets) 16 (events input))
+      subst (Report (settings input .host) (image input) [] (zeros input)) linked
+      (bounded-load (settings input .host) (settings input .machine) (image input) [] (zeros input) (accepted .image) (accepted .octets) (no-string (settings input .host)) 16 (events input))
 
-  pub loaded : ended input .ends .session .verdict ≡ 1 → Loaded (image input) (zeros input) (worldAtEnd input .machine)
+  pub loaded : ended input .ends .session .verdict ≡ 1 → Loaded (settings input .host) (image input) [] (zeros input) (worldAtEnd input .machine)
   loaded e =
-      subst (λ (w : World Session End). w .host .verdict ≡ 1 → Loaded (image input) (zeros input) (w .machine)) linked
-      (bounded-finished (settings input .host) (settings input .machine) (image input) (zeros input) (accepted .image) (accepted .octets) 16 (events input)) e
+      subst (λ (w : World Session End). w .host .verdict ≡ 1 → Loaded (settings input .host) (image input) [] (zeros input) (w .machine)) linked
+      (bounded-finished (settings input .host) (settings input .machine) (image input) [] (zeros input) (accepted .image) (accepted .octets) (no-string (settings input .host)) 16 (events input)) e

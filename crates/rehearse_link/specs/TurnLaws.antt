@@ -15,6 +15,8 @@ use Rattle.message.specs.Laws.{begins}
 use Rattle.directory.specs.declared.Region.{Region}
 use Rattle.directory.specs.Directory.{regions, bytes, trailer}
 use Rattle.image.specs.Image.{parts, segment, segmentOf, widest}
+use Rattle.entries_next.specs.Next.{next as next-place}
+use Rattle.entries.specs.Entries.{walk}
 use Rattle.memory.specs.Memory.{fits}
 use Rattle.step.specs.Step.{Sending, nothing, sends, Act, Outcome, first, call, frameCall, told, gives}
 use Rattle.step.specs.Laws.{none}
@@ -22,12 +24,13 @@ use Rattle.machine_record.specs.declared.Machine.{Machine}
 use Rattle.machine_record.specs.declared.Settings.{Settings as MachineSettings}
 use Rattle.machine_record.specs.Record.{is}
 use Rattle.machine_number.specs.Number.{heed}
-use Rattle.machine_next.specs.Next.{byNumber, onLoad, react}
+use Rattle.machine_next.specs.Next.{byNumber, onLoad, onParameters, react}
 use Rattle.machine_timer.specs.Timer.{onTimer}
+use Rattle.load_record.specs.declared.Settings.{Settings as LoadSettings}
 use Rattle.load_record.specs.declared.Next.{Next}
-use Rattle.load_checks.specs.Checks.{frames}
+use Rattle.load_checks.specs.Checks.{frames, given as marked, stringRefusal}
 use Rattle.load.specs.Load.{does}
-use Rattle.load.specs.Laws.{numbered-short}
+use Rattle.load.specs.Laws.{numbered-sent}
 use Rattle.job.specs.Turn.{frameOf}
 use Rattle.link.specs.Link.{Frame, refuses, acts, turned, queued}
 use Rattle.link.specs.CallLaws.{told-as}
@@ -89,6 +92,11 @@ module _ (s : MachineSettings) (m : Machine) (memory : List ℕ) (l : 2 ≤ m .s
       by-cases Runs (fits address (length bytes) (length memory)) (λ _. (h, omega arith)) (λ _. (omega arith, omega arith))) (λ _.
       by-cases Runs (eqb (heed m number) 2) (λ _. (l, omega arith)) (λ _. (l, tt)))
 
+  on-parameters : (number : ℕ) (entries : List ℕ) (transfer : ℕ) → Runs (onParameters m number entries transfer memory)
+  unfolding onParameters byNumber layout Runs
+  on-parameters number entries transfer =
+      by-cases Runs (eqb (heed m number) 1) (λ _. (omega arith, omega arith)) (λ _. by-cases Runs (eqb (heed m number) 2) (λ _. (l, omega arith)) (λ _. (l, tt)))
+
   pub machine-runs : (f : Fields) (frame : List ℕ) → Runs (react s m f frame memory)
   unfolding Runs
   machine-runs f frame =
@@ -96,9 +104,10 @@ module _ (s : MachineSettings) (m : Machine) (memory : List ℕ) (l : 2 ≤ m .s
       let no1 = ne-eqb (m .state) 1 (omega arith) in
       by-cases Runs (eqb (f .code) 0) (λ _. on-load (f .number) (f .address) (part frame f) _ (omega arith)) (λ _.
       by-cases Runs (eqb (f .code) 2) (λ _. on-load (f .number) (f .address) (part frame f) _ (omega arith)) (λ _.
+      by-cases Runs (eqb (f .code) 20) (λ _. on-parameters (f .number) (part frame f) (f .transfer)) (λ _.
       by-cases Runs (eqb (f .code) 4) (λ _. rw (no0, no1) (l, tt)) (λ _.
       by-cases Runs (eqb (f .code) 1) (λ _. rw no1 (l, tt)) (λ _.
-      by-cases Runs (eqb (f .code) 24) (λ _. rw no0 (l, tt)) (λ _. (l, tt))))))
+      by-cases Runs (eqb (f .code) 24) (λ _. rw no0 (l, tt)) (λ _. (l, tt)))))))
 
   pub timer-runs : Runs (onTimer s m memory)
   unfolding Runs layout
@@ -111,9 +120,15 @@ unfolding segment
 segment-narrow S [] i = omega arith
 segment-narrow S (r ∷ rs) i = by-cases (λ (x : Region). x .length ≤ S) (ltb i (parts S r)) (λ _. omega arith) (λ _. segment-narrow S rs (i - parts S r))
 
-pub host-short : (file : List ℕ) (S : ℕ) (next : Next) → S ≤ widest → Short (does file S next .sending)
-host-short file S next h =
+-- the empty string is accepted
+pub no-string : (s : LoadSettings) → stringRefusal s [] ≡ 0
+unfolding first walk next-place
+no-string s = by-cases (λ (n : ℕ). n ≡ 0) (marked s) (λ _. refl) (λ _. refl)
+
+pub host-short : (s : LoadSettings) (file : List ℕ) (next : Next) → s .«segment_size» ≤ widest → Short (does s file [] next .sending)
+unfolding walk next-place
+host-short s file next h =
     let i = next .session .position in
-    let n = segment-narrow S (regions file) i in
-    let short : length (segmentOf file S i .bytes) ≤ widest = simp length-take (omega arith) in
-    by-cases Short (next .sends) (λ _. numbered-short (frames file S) (trailer file .transfer) i (segmentOf file S i) short) (λ _. tt)
+    let n = segment-narrow (s .«segment_size») (regions file) i in
+    let short : length (segmentOf file (s .«segment_size») i .bytes) ≤ widest = simp length-take (omega arith) in
+    by-cases Short (next .sends) (λ _. numbered-sent s [] (frames s file) (trailer file .transfer) i (segmentOf file (s .«segment_size») i) (λ _. (refl, omega arith)) short .1) (λ _. tt)

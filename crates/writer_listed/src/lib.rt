@@ -4,7 +4,7 @@ ghost use Rattle.buffer.specs.Lay.{Came};
 ghost use mathlib.Core.Bool.{_&&_};
 ghost use lib.Dec.{eqb};
 ghost use Rattle.message.specs.Message.{requestProgram, parameters, formListed, idLength};
-ghost use Rattle.message.specs.Write.{write};
+ghost use Rattle.message.specs.Write.{entryList, write};
 ghost use Rattle.writer_listed.specs.Inner.{whole};
 use buffer::Written;
 use entries_next::Place;
@@ -56,7 +56,7 @@ fn id_fits(form: u8, n: usize) -> bool
 pub fn parameters(number: u8, entries: &[u8], transfer: u32, out: &mut [u8]) -> Written
     ensures { λ r. ⌜ Came (write (parameters number (now (entries .entry)) transfer) (now (out .entry))) r (now (out .exit)) ⌝ }
 {
-    if !whole(entries::walk(entries, 0)) {
+    if !listed(entries) {
         return Written {
             length: 0,
             refusal: 4,
@@ -66,6 +66,13 @@ pub fn parameters(number: u8, entries: &[u8], transfer: u32, out: &mut [u8]) -> 
     let head = [20, number];
     let tail = [0, t[0], t[1], t[2], t[3]];
     buffer::lay_three(&head, entries, &tail, out)
+}
+
+// Entries without their end mark are whole and of the list.
+pub fn listed(entries: &[u8]) -> bool
+    ensures { λ r. ⌜ r ≡ entryList (now (entries .entry)) .listed ⌝ }
+{
+    whole(entries::walk(entries, 0))
 }
 
 // Entries may end at this place.

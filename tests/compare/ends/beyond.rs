@@ -45,6 +45,24 @@ impl Compare {
         bytes[BEYOND..BEYOND + length].copy_from_slice(&file);
         self.refused(&loading(&bytes[..BEYOND + length]), Event::Timer, 5);
         bytes[BEYOND..BEYOND + length].fill(0);
+        self.strings_beyond(bytes);
+    }
+
+    /// Parameter strings that are good entries only in their low 32 bits.
+    fn strings_beyond(&mut self, bytes: &mut [u8]) {
+        let file = images::smallest();
+        let entries = [1, 2, 65, 66, 2, 0];
+        bytes[..entries.len()].copy_from_slice(&entries);
+        for length in [BEYOND, BEYOND + entries.len()] {
+            let mut end = loading(&file);
+            end.parameters = Hex(&bytes[..length]);
+            // Not looked at.
+            self.refused(&end, Event::Timer, 0);
+            end.settings.with_parameters = 1;
+            self.refused(&end, Event::Timer, 4);
+            self.refused(&end, Event::Frame(Hex(&[10, 1, 0])), 4);
+        }
+        bytes[..entries.len()].fill(0);
     }
 
     pub fn refused<E: End>(&mut self, end: &E, event: Event, refusal: u8) {
@@ -208,7 +226,9 @@ fn loading(file: &[u8]) -> Load<'_> {
         settings: LoadSettings {
             segment_size: 1,
             repeats: 1,
+            with_parameters: 0,
         },
         file: Hex(file),
+        parameters: Hex(&[]),
     }
 }

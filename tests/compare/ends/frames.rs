@@ -15,6 +15,15 @@ pub fn load(number: u8, address: u32, data: &[u8], transfer: Option<u32>) -> Vec
     frame
 }
 
+/// Code 20.
+pub fn parameters(number: u8, entries: &[u8], transfer: u32) -> Vec<u8> {
+    let mut frame = vec![20, number];
+    frame.extend(entries);
+    frame.push(0);
+    frame.extend(transfer.to_le_bytes());
+    frame
+}
+
 /// Code 10.
 pub fn request_load(number: u8, error: u8) -> Vec<u8> {
     vec![10, number, error]

@@ -1,4 +1,4 @@
-//! Compares the steps of the host's load.
+//! Compares the steps of the host's load, with and without a parameter string.
 
 use super::{Case, End, Event, ROOM, first, frames, room_refusal};
 use crate::Compare;
@@ -15,6 +15,15 @@ const FILE_MOST: usize = 16_777_216;
 pub struct Load<'a> {
     pub settings: LoadSettings,
     pub file: Hex<'a>,
+    /// The parameter string, which only a load with parameters looks at.
+    pub parameters: Hex<'a>,
+}
+
+impl Load<'_> {
+    /// n, the frames of a load of so many segments.
+    pub fn frames(&self, segments: u64) -> u64 {
+        segments + u64::from(self.settings.with_parameters == 1)
+    }
 }
 
 impl End for Load<'_> {
@@ -32,9 +41,11 @@ impl End for Load<'_> {
         if matches!(event, Event::Start) {
             return Ok((numbers(Session::Waiting), None));
         }
+        let (Hex(file), Hex(string)) = (self.file, self.parameters);
         let settings = load::Settings {
             segment_size: self.settings.segment_size,
             repeats: self.settings.repeats,
+            parameters: load::given(self.settings.with_parameters, string)?,
         };
         let mut session = Session::from_numbers(
             record.waiting,
@@ -43,7 +54,6 @@ impl End for Load<'_> {
             record.repeats,
             record.sent,
         )?;
-        let Hex(file) = self.file;
         let sent = match event {
             Event::Frame(Hex(bytes)) => load::frame(settings, &mut session, file, bytes, reply)?,
             _ => load::timer(settings, &mut session, file, reply)?,
@@ -58,16 +68,16 @@ impl End for Load<'_> {
         _: &mut [u8],
         reply: &mut [u8],
     ) -> Step<Self::Record> {
-        let Hex(file) = self.file;
+        let (settings, Hex(file), Hex(string)) = (self.settings, self.file, self.parameters);
         match event {
             Event::Start => Step {
                 record: mop_proved::load_start(),
                 ..Default::default()
             },
             Event::Frame(Hex(bytes)) => {
-                mop_proved::load_frame(self.settings, record, file, bytes, reply)
+                mop_proved::load_frame(settings, record, file, string, bytes, reply)
             }
-            Event::Timer => mop_proved::load_timer(self.settings, record, file, reply),
+            Event::Timer => mop_proved::load_timer(settings, record, file, string, reply),
         }
     }
 
@@ -78,13 +88,13 @@ impl End for Load<'_> {
         _: &mut [u8],
         reply: &mut [u8],
     ) -> Option<Written> {
-        let (settings, Hex(file)) = (self.settings, self.file);
+        let (settings, Hex(file), Hex(string)) = (self.settings, self.file, self.parameters);
         Some(match event {
             Event::Start => return None,
             Event::Frame(Hex(bytes)) => {
-                mop_proved::load_update_frame(settings, record, file, bytes, reply)
+                mop_proved::load_update_frame(settings, record, file, string, bytes, reply)
             }
-            Event::Timer => mop_proved::load_update_timer(settings, record, file, reply),
+            Event::Timer => mop_proved::load_update_timer(settings, record, file, string, reply),
         })
     }
 
@@ -97,7 +107,7 @@ impl End for Load<'_> {
     }
 }
 
-fn numbers(session: Session) -> mop_proved::Load {
+pub fn numbers(session: Session) -> mop_proved::Load {
     match session {
         Session::Waiting => mop_proved::Load {
             waiting: 1,
@@ -131,13 +141,31 @@ pub fn example() -> Vec<u8> {
 pub const EXAMPLE_SETTINGS: LoadSettings = LoadSettings {
     segment_size: 2,
     repeats: 1,
+    with_parameters: 0,
 };
+
+/// Not over, c frames answered.
+pub fn running(position: u64, repeats: u32, sent: u64) -> mop_proved::Load {
+    ended(0, position, repeats, sent)
+}
+
+/// With this verdict.
+pub fn ended(verdict: u8, position: u64, repeats: u32, sent: u64) -> mop_proved::Load {
+    mop_proved::Load {
+        position,
+        sent,
+        repeats,
+        waiting: 0,
+        verdict,
+    }
+}
 
 impl Compare {
     pub fn load_steps(&mut self) {
         self.load_set_cases();
         self.load_rooms();
         self.load_answers();
+        self.load_parameters();
         for _ in 0..1500 {
             let count = self.random.pick(&[1, 1, 2, 3, 64]);
             let file = Good::new(&mut self.random, count).file();
@@ -158,15 +186,10 @@ impl Compare {
         let end = Load {
             settings: EXAMPLE_SETTINGS,
             file: Hex(&file),
+            parameters: Hex(&[]),
         };
         let waiting = numbers(Session::Waiting);
-        let with = |verdict, position, repeats, sent| mop_proved::Load {
-            position,
-            sent,
-            repeats,
-            waiting: 0,
-            verdict,
-        };
+        let with = ended;
         let frame = |frame| Event::Frame(Hex(frame));
         let timer = Event::Timer;
         let request = frame(&[8, 0, 1, 2, 255, 0]);
@@ -197,7 +220,8 @@ impl Compare {
         }
     }
 
-    fn good_load<'a>(&mut self, file: &'a [u8]) -> Load<'a> {
+    /// Good settings; the string is given or not.
+    pub fn good_load<'a>(&mut self, file: &'a [u8], string: &'a [u8]) -> Load<'a> {
         let any = self.random.range(1, 1490) as u32;
         let small = self.random.range(1, 40) as u32;
         let segment_size = self.random.pick(&[1, 2, small, 1490, any]);
@@ -206,26 +230,29 @@ impl Compare {
             settings: LoadSettings {
                 segment_size,
                 repeats: self.random.pick(&[0, 0, 1, 2, 254, 255, any]),
+                with_parameters: self.random.pick(&[0, 1]),
             },
             file: Hex(file),
+            parameters: Hex(string),
         }
     }
 
     /// A record that is not bad: waiting, running or with a verdict, also such
     /// as no run has.
-    fn good_load_record(&mut self, settings: LoadSettings, segments: u64) -> mop_proved::Load {
+    fn good_load_record(&mut self, settings: LoadSettings, frames: u64) -> mop_proved::Load {
         if self.random.once_in(8) {
             return numbers(Session::Waiting);
         }
         let verdict = self.random.pick(&[0, 0, 0, 0, 0, 0, 0, 1, 2, 3, 4]);
-        let last = segments - 1;
-        let any = self.random.below(segments);
+        let last = frames - 1;
+        let any = self.random.below(frames);
         let round = any / 256 * 256 + self.random.pick(&[0, 254, 255]);
-        let position = self.random.pick(&[0, last, any, round.min(last)]);
-        let most = segments * (u64::from(settings.repeats) + 1);
+        let near = last.saturating_sub(1);
+        let position = self.random.pick(&[0, near, last, any, round.min(last)]);
+        let most = frames * (u64::from(settings.repeats) + 1);
         let any = self.random.below(most + 1);
         mop_proved::Load {
-            position: if verdict == 1 { segments } else { position },
+            position: if verdict == 1 { frames } else { position },
             sent: self.random.pick(&[0, 1, most - 1, most, any]),
             repeats: self.any_repeats(settings.repeats),
             waiting: 0,
@@ -241,10 +268,12 @@ impl Compare {
     }
 
     fn any_load_step(&mut self, kind: &'static str, file: &[u8]) {
-        let mut end = self.good_load(file);
+        let (string, refusal) = self.any_string();
+        let mut end = self.good_load(file, &string);
         let image = image::check(file, end.settings.segment_size);
-        let segments = image.as_ref().map_or(9, image::Image::segments);
-        let mut record = self.good_load_record(end.settings, segments);
+        let frames = end.frames(image.as_ref().map_or(9, image::Image::segments));
+        let bad_string = refusal * end.settings.with_parameters;
+        let mut record = self.good_load_record(end.settings, frames);
         let frame = self.frame_for_load(record.position);
         let event = match self.random.below(4) {
             0 => Event::Timer,
@@ -252,7 +281,7 @@ impl Compare {
         };
         let mut late = 0;
         if self.faulty() {
-            record = self.late_load_fault(end.settings, segments);
+            record = self.late_load_fault(end.settings, frames);
             late = 10;
         }
         let mut early = 0;
@@ -272,6 +301,7 @@ impl Compare {
                 room_refusal(room),
                 image.err().unwrap_or(0),
                 late,
+                bad_string,
                 event.refusal(),
             ]),
         };
@@ -297,7 +327,7 @@ impl Compare {
     /// Breaks a rule that is judged before the reply buffer and the image.
     fn early_load_fault(&mut self, settings: &mut LoadSettings, record: &mut mop_proved::Load) {
         let high = self.random.pick(&[1, 255, 1 << 16]);
-        match self.random.below(9) {
+        match self.random.below(10) {
             0 => settings.segment_size = self.random.pick(&[0, 1491, 65_537, u32::MAX]),
             1 => settings.repeats = self.random.pick(&[256, 257, 65_536, u32::MAX]),
             2 => record.repeats = settings.repeats + high,
@@ -306,6 +336,7 @@ impl Compare {
             5 => record.waiting = self.number_from(2),
             6 => (record.waiting, record.position) = (1, self.random.pick(&[1, 1 << 32])),
             7 => (record.waiting, record.sent) = (1, self.random.pick(&[1, 1 << 32])),
+            8 => settings.with_parameters = self.number_from(2),
             _ => {
                 *record = numbers(Session::Waiting);
                 match self.random.once_in(2) {
@@ -316,23 +347,23 @@ impl Compare {
         }
     }
 
-    /// A record that breaks only a rule that needs the number of segments.
-    fn late_load_fault(&mut self, settings: LoadSettings, segments: u64) -> mop_proved::Load {
-        let mut record = self.good_load_record(settings, segments);
+    /// A record that breaks only a rule that needs the number of frames.
+    fn late_load_fault(&mut self, settings: LoadSettings, frames: u64) -> mop_proved::Load {
+        let mut record = self.good_load_record(settings, frames);
         record.waiting = 0;
-        let most = segments * (u64::from(settings.repeats) + 1);
+        let most = frames * (u64::from(settings.repeats) + 1);
         let open = self.random.pick(&[0, 2, 3, 4]);
         match self.random.below(4) {
             0 => {
-                let high = [segments + 1, segments + 256, segments + (1 << 32), u64::MAX];
+                let high = [frames + 1, frames + 256, frames + (1 << 32), u64::MAX];
                 record.position = self.random.pick(&high);
             }
             1 => {
                 let high = [most + 1, most + 256, most + (1 << 32), u64::MAX];
                 record.sent = self.random.pick(&high);
             }
-            2 => (record.verdict, record.position) = (1, self.random.below(segments)),
-            _ => (record.verdict, record.position) = (open, segments),
+            2 => (record.verdict, record.position) = (1, self.random.below(frames)),
+            _ => (record.verdict, record.position) = (open, frames),
         }
         record
     }
@@ -355,51 +386,50 @@ impl Compare {
 
     fn load_rooms(&mut self) {
         let file = Good::new(&mut self.random, 3).file();
-        let end = self.good_load(&file);
-        let image = image::check(&file, end.settings.segment_size);
-        let segments = image.map_or(0, |image| image.segments());
-        let running = mop_proved::Load {
-            sent: 1,
-            ..Default::default()
-        };
-        let finished = mop_proved::Load {
-            position: segments,
-            verdict: 1,
-            ..running
-        };
-        let waiting = numbers(Session::Waiting);
-        let request = [8, 0, 1, 2, 255, 0];
-        for record in [waiting, running, finished] {
-            for frame in [&request[..], &[10, 1, 0], &[3]] {
-                self.rooms(&end, record, Event::Frame(Hex(frame)), &[]);
+        let string = self.any_entries().concat();
+        for mark in [0, 1] {
+            let mut end = self.good_load(&file, &string);
+            end.settings.with_parameters = mark;
+            let image = image::check(&file, end.settings.segment_size);
+            let frames = end.frames(image.map_or(0, |image| image.segments()));
+            let waiting = numbers(Session::Waiting);
+            let request = [8, 0, 1, 2, 255, 0];
+            for record in [waiting, running(0, 0, 1), ended(1, frames, 0, 1)] {
+                for frame in [&request[..], &[10, 1, 0], &[3]] {
+                    self.rooms(&end, record, Event::Frame(Hex(frame)), &[]);
+                }
+                self.rooms(&end, record, Event::Timer, &[]);
             }
-            self.rooms(&end, record, Event::Timer, &[]);
         }
     }
 
     /// Every number and many errors, at positions about the numbers' wrap.
     fn load_answers(&mut self) {
         let file = images::shared(&self.random.bytes(600), 1, 5);
-        let end = Load {
+        let string = self.any_entries().concat();
+        let mut end = Load {
             settings: LoadSettings {
                 segment_size: 1,
                 repeats: 3,
+                with_parameters: 0,
             },
             file: Hex(&file),
+            parameters: Hex(&string),
         };
-        for position in [0, 1, 254, 255, 256, 257, 510, 511, 512, 598, 599] {
+        self.every_answer(&end, &[0, 1, 254, 255, 256, 257, 510, 511, 512, 598, 599]);
+        end.settings.with_parameters = 1;
+        self.every_answer(&end, &[0, 255, 256, 598, 599, 600]);
+    }
+
+    fn every_answer(&mut self, end: &Load, positions: &[u64]) {
+        for &position in positions {
             for number in 0..=255 {
                 for error in [0, 1, 128] {
                     let frame = frames::request_load(number, error);
                     let case = Case {
                         kind: "every number answered",
-                        end: &end,
-                        record: mop_proved::Load {
-                            position,
-                            sent: position + 1,
-                            repeats: 2,
-                            ..Default::default()
-                        },
+                        end,
+                        record: running(position, 2, position + 1),
                         event: Event::Frame(Hex(&frame)),
                         room: ROOM,
                         wanted: 0,

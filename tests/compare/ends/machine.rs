@@ -1,12 +1,14 @@
 //! Compares the machine's steps.
 
+use super::machine_parameters::OLD;
 use super::{Case, End, Event, ROOM, first, frames, room_refusal};
 use crate::Compare;
 use crate::make;
 use crate::tally::Hex;
+use mop_plain::entries::{self, Kept};
 use mop_plain::machine::{self, State};
 use mop_plain::step::Sent;
-use mop_proved::{MachineSettings, Step};
+use mop_proved::{MachineSettings, Parameters, Step, Value};
 
 const MEMORY_MOST: usize = 16_777_216;
 
@@ -46,8 +48,15 @@ impl End for Machine {
             device: self.settings.device,
             processor: self.settings.processor,
         };
-        let mut state =
-            State::from_numbers(record.state, record.expected, record.error, record.transfer)?;
+        let mut machine = machine::Machine {
+            state: State::from_numbers(
+                record.state,
+                record.expected,
+                record.error,
+                record.transfer,
+            )?,
+            kept: plain_kept(record.parameters),
+        };
         let sent = match (event, self.purpose) {
             (Event::Start, purpose) => {
                 let start = match purpose {
@@ -55,15 +64,15 @@ impl End for Machine {
                     Purpose::Dump => machine::start_dump,
                 };
                 let (fresh, sent) = start(settings, memory, reply)?;
-                state = fresh;
+                machine = fresh;
                 sent
             }
             (Event::Frame(Hex(bytes)), _) => {
-                machine::frame(settings, &mut state, bytes, memory, reply)?
+                machine::frame(settings, &mut machine, bytes, memory, reply)?
             }
-            (Event::Timer, _) => machine::timer(settings, state, memory, reply)?,
+            (Event::Timer, _) => machine::timer(settings, &machine, memory, reply)?,
         };
-        Ok((numbers(state), sent))
+        Ok((numbers(machine), sent))
     }
 
     fn proved(
@@ -110,21 +119,59 @@ impl End for Machine {
 /// The record without the numbers that are not its state's own: they mean
 /// nothing, and the plain state has no place for them.
 fn own(record: mop_proved::Machine) -> mop_proved::Machine {
-    match record.state {
+    let own = match record.state {
         LOADING => loading(record.expected, record.error),
         STARTED => started(record.transfer),
         other => state(other),
-    }
+    };
+    keeping(own, record.parameters)
 }
 
-/// A state's number and what it keeps; all else is 0.
-fn numbers(machine: State) -> mop_proved::Machine {
-    match machine {
+/// A state's number, what it keeps, and the parameters; all else is 0.
+fn numbers(machine: machine::Machine) -> mop_proved::Machine {
+    let numbers = match machine.state {
         State::Idle => state(IDLE),
         State::Offering => state(OFFERING),
         State::Requesting => state(REQUESTING),
         State::Loading { expected, error } => loading(expected, error),
         State::Started { transfer } => started(transfer),
+    };
+    keeping(numbers, proved_kept(machine.kept))
+}
+
+fn proved_kept(kept: Kept) -> Parameters {
+    let value = |value: entries::Value| Value {
+        length: value.length,
+        bytes: value.bytes,
+    };
+    Parameters {
+        target_name: value(kept.target_name),
+        target_address: value(kept.target_address),
+        host_name: value(kept.host_name),
+        host_address: value(kept.host_address),
+        host_time: value(kept.host_time),
+    }
+}
+
+fn plain_kept(kept: Parameters) -> Kept {
+    let value = |value: Value| entries::Value {
+        length: value.length,
+        bytes: value.bytes,
+    };
+    Kept {
+        target_name: value(kept.target_name),
+        target_address: value(kept.target_address),
+        host_name: value(kept.host_name),
+        host_address: value(kept.host_address),
+        host_time: value(kept.host_time),
+    }
+}
+
+/// The record with these parameters.
+pub fn keeping(record: mop_proved::Machine, parameters: Parameters) -> mop_proved::Machine {
+    mop_proved::Machine {
+        parameters,
+        ..record
     }
 }
 
@@ -136,7 +183,7 @@ pub fn state(state: u8) -> mop_proved::Machine {
     }
 }
 
-fn loading(expected: u8, error: u8) -> mop_proved::Machine {
+pub fn loading(expected: u8, error: u8) -> mop_proved::Machine {
     mop_proved::Machine {
         expected,
         error,
@@ -144,7 +191,7 @@ fn loading(expected: u8, error: u8) -> mop_proved::Machine {
     }
 }
 
-fn started(transfer: u32) -> mop_proved::Machine {
+pub fn started(transfer: u32) -> mop_proved::Machine {
     mop_proved::Machine {
         transfer,
         ..state(STARTED)
@@ -157,13 +204,14 @@ impl Compare {
         self.machine_numbers();
         self.machine_rooms();
         self.machine_states();
+        self.machine_parameters();
         for _ in 0..60_000 {
             self.any_machine_step();
         }
         self.large_memories();
     }
 
-    fn good_machine(&mut self) -> Machine {
+    pub fn good_machine(&mut self) -> Machine {
         let any = self.random.range(1, 1495) as u32;
         Machine {
             settings: MachineSettings {
@@ -175,16 +223,17 @@ impl Compare {
         }
     }
 
-    /// Any state, with what it keeps.
+    /// Any state, with what it keeps, and any parameters.
     fn any_state(&mut self) -> mop_proved::Machine {
         let any = self.random.u8();
         let expected = self.random.pick(&[0, 1, 2, 254, 255, any]);
         let error = self.random.pick(&[0, 0, 1, 1, any]);
-        match self.random.range(0, 6) as u8 {
+        let record = match self.random.range(0, 6) as u8 {
             STARTED => started(self.random.u32()),
             number @ IDLE..=REQUESTING => state(number),
             _ => loading(expected, error),
-        }
+        };
+        keeping(record, self.any_kept())
     }
 
     /// Paper 01's K7, K8, K9 and K12, and what its text says outright.
@@ -236,6 +285,9 @@ impl Compare {
             let event = Event::Frame(Hex(&frame));
             let reply = Some(reply).filter(|reply| !reply.is_empty());
             self.set_case(&end, before, event, &old, (after, reply, &memory));
+            // Parameters stay whatever these frames do.
+            let [before, after] = [before, after].map(|record| keeping(record, OLD));
+            self.set_case(&end, before, event, &old, (after, reply, &memory));
         }
     }
 
@@ -269,7 +321,8 @@ impl Compare {
             let load = frames::load(0, 3, &[1, 2, 3], None);
             let dump = frames::request_dump(2, 20);
             let offer = make::frame(&mut self.random, 12);
-            for frame in [load, dump, offer, vec![24, 1, 2]] {
+            let parameters = frames::parameters(0, &[1, 1, 65], 9);
+            for frame in [load, dump, offer, vec![24, 1, 2], parameters] {
                 self.rooms(&end, state(number), Event::Frame(Hex(&frame)), &memory);
             }
             self.rooms(&end, state(number), Event::Timer, &memory);
@@ -347,8 +400,9 @@ impl Compare {
 
     /// A frame that may matter to a machine that expects this number.
     fn frame_for_machine(&mut self, expected: u8, reply_bytes: u32, memory: usize) -> Vec<u8> {
-        let frame = match self.random.below(10) {
+        let frame = match self.random.below(13) {
             0..=4 => self.any_load(expected, memory),
+            10..=12 => self.any_parameters(expected),
             5 | 6 => {
                 let address = self.address_about(memory, reply_bytes as usize);
                 let near = reply_bytes as u16;

@@ -6,10 +6,13 @@ mod dump;
 mod frames;
 mod link;
 mod load;
+mod load_parameters;
 mod looping;
 mod machine;
+mod machine_parameters;
 mod runs;
 mod seen;
+mod strings;
 
 use std::fmt::{self, Debug};
 
@@ -197,7 +200,13 @@ impl Compare {
             self.differ_in_step("in its place", &case, store, seen, expected);
         }
         if let Err(wanted) = judge(&case, answer, &before, &plain) {
-            self.differ_in_step("plain step against the protocol", &case, store, answer, wanted);
+            self.differ_in_step(
+                "plain step against the protocol",
+                &case,
+                store,
+                answer,
+                wanted,
+            );
         }
 
         let outcome = Outcome {

@@ -4,11 +4,13 @@ use super::dump::{Dump, sent_most};
 use super::link::{Link, Mix, Side};
 use super::load::{EXAMPLE_SETTINGS, Load, example};
 use super::machine::{Machine, Purpose, STARTED};
+use super::seen::WITH_PARAMETERS;
+use super::strings::kept;
 use super::{End, ROOM};
 use crate::Compare;
 use crate::images::{Region, build};
 use crate::tally::Hex;
-use mop_proved::{DumpSettings, LoadSettings, MachineSettings};
+use mop_proved::{DumpSettings, LoadSettings, MachineSettings, Parameters};
 
 /// Events after a verdict, to see that it stays.
 const AFTER_VERDICT: usize = 20;
@@ -42,6 +44,8 @@ struct Job {
     transfer: u32,
     settings: LoadSettings,
     memory: Vec<u8>,
+    /// The entries of the parameter string, if there is one.
+    entries: Option<Vec<Vec<u8>>>,
 }
 
 impl Job {
@@ -62,14 +66,32 @@ impl Job {
             transfer: TRANSFER,
             settings,
             memory,
+            entries: None,
         }
+    }
+
+    /// The same with a parameter string at its end.
+    fn ending_with(self, entries: Vec<Vec<u8>>) -> Job {
+        Job {
+            settings: LoadSettings {
+                with_parameters: 1,
+                ..self.settings
+            },
+            entries: Some(entries),
+            ..self
+        }
+    }
+
+    /// n, the number of frames.
+    fn frames(&self) -> usize {
+        self.segments.len() + usize::from(self.entries.is_some())
     }
 
     /// PROTOCOL 6's claim of a load, after any list of events.
     fn claim(&self, link: &Link<Load>) -> Result<(), String> {
         let record = link.record;
-        let segments = self.segments.len();
-        let most = segments as u64 * (u64::from(self.settings.repeats) + 1);
+        let frames = self.frames();
+        let most = frames as u64 * (u64::from(self.settings.repeats) + 1);
         let taken = link.taken_from_host();
         if record.sent != taken || taken > most {
             return Err(format!("{taken} sent, at most {most}"));
@@ -77,23 +99,25 @@ impl Job {
         let position = record.position as usize;
         let holds = match (record.waiting, record.verdict) {
             (1, _) => self.first_are_in(0, link),
-            (_, 1) => self.first_are_in(segments, link),
+            (_, 1) => self.first_are_in(frames, link),
             (_, 2) => self.first_are_in(position, link),
             _ => self.first_are_in(position, link) || self.first_are_in(position + 1, link),
         };
         if holds {
             Ok(())
         } else {
-            Err(format!("the first {position} segments are in, or one more"))
+            Err(format!("the first {position} frames are in, or one more"))
         }
     }
 
-    /// Memory is the old one with the first k laid over it, all of which fit,
-    /// and the machine has started exactly if they are all.
+    /// Memory is the old one with the segments of the first k frames laid over
+    /// it, all of which fit, and the machine has started exactly if they are
+    /// all; then it keeps what the string says, and before nothing.
     fn first_are_in(&self, count: usize, link: &Link<Load>) -> bool {
-        let Some(segments) = self.segments.get(..count) else {
+        if count > self.frames() {
             return false;
-        };
+        }
+        let segments = self.segments.iter().take(count);
         let mut memory = self.memory.clone();
         for (address, bytes) in segments {
             match memory.get_mut(*address..address + bytes.len()) {
@@ -102,11 +126,16 @@ impl Job {
             }
         }
         let started = link.state.state == STARTED && link.state.transfer == self.transfer;
-        let right = match count == self.segments.len() {
-            true => started,
-            false => link.state.state != STARTED,
+        let (right, wanted) = match count == self.frames() {
+            true => (started, self.kept()),
+            false => (link.state.state != STARTED, Parameters::default()),
         };
-        right && memory == link.memory
+        right && memory == link.memory && link.state.parameters == wanted
+    }
+
+    /// What the string says.
+    fn kept(&self) -> Parameters {
+        kept(self.entries.as_deref().unwrap_or_default())
     }
 }
 
@@ -141,6 +170,7 @@ impl Compare {
         let host = Load {
             settings: EXAMPLE_SETTINGS,
             file: Hex(&file),
+            parameters: Hex(&[]),
         };
         let machine = loadable(0, 0);
         let mut link = Link::new(self, &host, &machine, &[0; 8], &[]);
@@ -165,16 +195,14 @@ impl Compare {
     }
 
     /// Draws events from a mix until the host has a verdict and some more, or
-    /// there were so many, and checks the claim. `length` is the number of
-    /// segments answered or replies taken.
+    /// there were so many, and checks the claim. Gives the host's record.
     fn drive<H: End>(
         &mut self,
         mut link: Link<H>,
         mix: Mix,
         events: usize,
         claim: impl Fn(&Link<H>) -> Result<(), String>,
-        length: impl Fn(&H::Record) -> u64,
-    ) {
+    ) -> H::Record {
         let mut left = events;
         while left > 0 {
             if H::verdict(&link.record) != 0 {
@@ -192,8 +220,7 @@ impl Compare {
             }
         }
         self.check_claim(&link, &claim);
-        let verdict = H::verdict(&link.record);
-        self.tally.ends.run(H::NAME, verdict, length(&link.record));
+        link.record
     }
 
     fn check_claim<H: End>(
@@ -221,8 +248,9 @@ impl Compare {
     pub fn load_runs(&mut self) {
         for _ in 0..2500 {
             let job = self.any_job();
+            let job = self.perhaps_with_parameters(job);
             let mix = self.any_mix();
-            let events = self.random.range(0, 30 + 12 * job.segments.len());
+            let events = self.random.range(0, 30 + 12 * job.frames());
             self.load_run(&job, mix, events);
         }
         // Numbers wrap from 256 segments on, and must not be confused then.
@@ -234,20 +262,43 @@ impl Compare {
                 _ => self.random.range(257, 700),
             };
             let job = self.long_job(count);
+            let job = self.perhaps_with_parameters(job);
             let mix = [CLEAN, DOUBLED, LOSSY][round % 3];
             self.load_run(&job, mix, 16 * count);
+        }
+        // The parameters' number is 1, 255, 0, 1 and 0.
+        for count in [1, 255, 256, 257, 512] {
+            for mix in [CLEAN, DOUBLED, LOSSY] {
+                let entries = self.any_entries();
+                let job = self.long_job(count).ending_with(entries);
+                self.load_run(&job, mix, 30 + 16 * count);
+            }
+        }
+    }
+
+    fn perhaps_with_parameters(&mut self, job: Job) -> Job {
+        match self.random.once_in(2) {
+            true => job.ending_with(self.any_entries()),
+            false => job,
         }
     }
 
     fn load_run(&mut self, job: &Job, mix: Mix, events: usize) {
+        let string = job.entries.as_ref().map(|entries| entries.concat());
         let host = Load {
             settings: job.settings,
             file: Hex(&job.file),
+            parameters: Hex(string.as_deref().unwrap_or_default()),
         };
         let machine = loadable(self.random.u8(), self.random.u8());
         let link = Link::new(self, &host, &machine, &job.memory, &[]);
-        let claim = |link: &Link<Load>| job.claim(link);
-        self.drive(link, mix, events, claim, |record| record.position);
+        let record = self.drive(link, mix, events, |link| job.claim(link));
+        let name = match string {
+            Some(_) => WITH_PARAMETERS,
+            None => Load::NAME,
+        };
+        let (verdict, position) = (record.verdict, record.position);
+        self.tally.ends.run(name, verdict, position);
     }
 
     /// A few regions, mostly inside memory, in a few segments.
@@ -271,6 +322,7 @@ impl Compare {
         let settings = LoadSettings {
             segment_size: self.random.range(least, 40 * scale).min(1490) as u32,
             repeats: self.random.pick(&[0, 1, 2, 3, 255]),
+            with_parameters: 0,
         };
         let memory_length = match self.random.below(6) {
             0 => self.random.range(0, end),
@@ -298,6 +350,7 @@ impl Compare {
         let settings = LoadSettings {
             segment_size: size as u32,
             repeats: self.random.pick(&[20, 255]),
+            with_parameters: 0,
         };
         Job::new(&body, &[region], settings, memory)
     }
@@ -346,7 +399,9 @@ impl Compare {
         let buffer = self.random.bytes(length);
         let link = Link::new(self, &host, &machine, &memory, &buffer);
         let claim = |link: &Link<Dump>| dump_claim(link, &memory, &buffer);
-        self.drive(link, mix, events, claim, |record| record.replies);
+        let record = self.drive(link, mix, events, claim);
+        let (verdict, replies) = (record.verdict, record.replies);
+        self.tally.ends.run(Dump::NAME, verdict, replies);
     }
 }
 

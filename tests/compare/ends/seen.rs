@@ -9,13 +9,13 @@ const WITH_FRAME: &[u8] = &[0, 1, 2, 3, 4, 9, 10];
 const WITHOUT_FRAME: &[u8] = &[0, 9, 10];
 
 /// Each row, with all that can occur in it.
-const POSSIBLE: [(&str, &str, &[u8]); 25] = [
+const POSSIBLE: [(&str, &str, &[u8]); 27] = [
     ("machine", "start", WITHOUT_FRAME),
     ("machine", "frame", WITH_FRAME),
     ("machine", "timer", WITHOUT_FRAME),
     ("load", "start", &[0]),
     ("load", "frame", &[0, 1, 2, 3, 4, 5, 6, 7, 8, 9, 10]),
-    ("load", "timer", &[0, 5, 6, 7, 8, 9, 10]),
+    ("load", "timer", &[0, 2, 4, 5, 6, 7, 8, 9, 10]),
     ("dump", "start", &[0]),
     ("dump", "frame", WITH_FRAME),
     ("dump", "timer", WITHOUT_FRAME),
@@ -27,15 +27,19 @@ const POSSIBLE: [(&str, &str, &[u8]); 25] = [
     ("dump", STATES, &[0, 1, 3]),
     ("loop", STATES, &[0, 1, 2, 3]),
     ("machine", CODES, &[8, 10, 12, 14, 26]),
-    ("load", CODES, &[0, 2]),
+    ("load", CODES, &[0, 2, 20]),
     ("dump", CODES, &[1, 4]),
     ("loop", CODES, &[24]),
     ("load", RUNS, &[0, 1, 2, 3, 4]),
+    (WITH_PARAMETERS, RUNS, &[0, 1, 2, 3, 4]),
     ("dump", RUNS, &[0, 1, 3]),
     ("loop", RUNS, &[0, 1, 2, 3]),
     ("load", LONG_RUNS, &[FINISHED]),
+    (WITH_PARAMETERS, LONG_RUNS, &[FINISHED]),
     ("dump", LONG_RUNS, &[FINISHED]),
 ];
+/// Loads with a parameter string.
+pub const WITH_PARAMETERS: &str = "load with parameters";
 const STATES: &str = "reached";
 const CODES: &str = "sent code";
 const RUNS: &str = "runs ended";
@@ -57,7 +61,7 @@ impl Seen {
     }
 
     /// A whole run has come to its end with this verdict, after so many
-    /// segments answered or replies taken.
+    /// frames answered or replies taken.
     pub fn run(&mut self, end: &'static str, verdict: u8, length: u64) {
         self.count(end, RUNS, verdict);
         if length > LONG && verdict == FINISHED {
@@ -72,7 +76,7 @@ impl Seen {
                 .iter()
                 .map(|(answer, &count)| format!("{answer:>4}:{:>10}", commas(count)))
                 .collect();
-            println!("    {:<21}{counts}", format!("{end} {row}"));
+            println!("    {:<36}{counts}", format!("{end} {row}"));
         }
     }
 

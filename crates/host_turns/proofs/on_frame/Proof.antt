@@ -12,6 +12,9 @@ returns c = λ memory.
     let a = c .before .before .before .before .args in
     none-left (a .settings) (a .file .now) (run (a .ends) memory (a .places .now) (a .machine-places .now) (a .reply .now)) _ (c .before .first .ensures) (c .if1 .taken)
 
+slice-aggregate-frame : tie.Need-slice-aggregate-frame
+slice-aggregate-frame c = search needs
+
 frame-requires : tie.Need-frame-requires
 frame-requires c κs = search needs
 
@@ -23,9 +26,9 @@ same-length c = search needs
 
 returns-2 : tie.Need-returns-2
 returns-2 c = λ memory.
-    let a = c .before .before .before .before .before .before .before .before .before .before .before .args in
-    some-left (a .settings) (a .file .now) (run (a .ends) memory (a .places .now) (a .machine-places .now) (a .reply .now)) _ (c .before .before .before .before .before .before .before .before .first .ensures) (c .before .before .before .before .before .before .before .if1 .left) (c .before .before .before .before .before .frame .ensures) (c .send .ensures)
+    let a = c .before .before .before .before .before .before .before .before .before .before .before .before .args in
+    some-left (a .settings) (a .file .now) (run (a .ends) memory (a .places .now) (a .machine-places .now) (a .reply .now)) _ (c .before .before .before .before .before .before .before .before .before .first .ensures) (c .before .before .before .before .before .before .before .before .if1 .left) (c .before .before .before .before .before .frame .ensures) (c .send .ensures)
 
 pub on-frame-spec : {M : Type 1} → statement M
 on-frame-spec =
-    tie.close (tie.spec first-requires returns frame-requires send-requires same-length returns-2)
+    tie.close (tie.spec first-requires returns slice-aggregate-frame frame-requires send-requires same-length returns-2)

@@ -8,6 +8,9 @@ use Rattle.load.proofs.ahead.Tie as tie
 returns : tie.Need-returns
 returns c = λ l. simp (eq-eqb _ _ (c .if1 .taken))
 
+add-lesser : tie.Need-add-lesser
+add-lesser c = search needs
+
 lesser-requires : tie.Need-lesser-requires
 lesser-requires c κs = search needs
 
@@ -18,4 +21,4 @@ returns-2 : tie.Need-returns-2
 returns-2 c = λ l. simp (ne-eqb _ _ (c .before .if1 .left)) (omega (arith, c .lesser .ensures))
 
 pub ahead-spec : {M : Type 1} → statement M
-ahead-spec = tie.close (tie.spec returns lesser-requires add-result returns-2)
+ahead-spec = tie.close (tie.spec returns add-lesser lesser-requires add-result returns-2)

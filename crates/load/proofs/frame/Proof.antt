@@ -1,5 +1,5 @@
 -- `load::frame` meets its contract.
-use Prim.Native.Nat.{ℕ, _≤_}
+use Prim.Native.Nat.{ℕ, _+_, _≤_}
 use mathlib.Core.Path.{_≡_, sym, ap, _∙_}
 use mathlib.Core.List.{List}
 use native.Mathlib.Omega.{arith}
@@ -19,44 +19,47 @@ use Rattle.load_record.specs.Laws.{Bound}
 use Rattle.load_next.specs.Laws.{react-bound}
 use Rattle.load_next.specs.Inner.{ahead}
 use Rattle.load_checks.specs.declared.Ruling.{Ruling}
-use Rattle.load_checks.specs.Checks.{frames, refusal, Ruled}
+use Rattle.load_checks.specs.Checks.{frames, refusal, ruling}
 use Rattle.load.specs.Load.{does, loadFrame}
 use Rattle.load.specs.Inner.{acting}
-use Rattle.load.proofs.Calls.{facts, goes, ready, given}
+use Rattle.load.proofs.Calls.{says, facts, goes, ready, given}
 use Rattle.load.proofs.frame.Statement.{statement}
 use Rattle.load.proofs.frame.Tie as tie
 
-module _ (s : Settings) (h : Session) (file frame reply : List ℕ) {i : ℕ} {k : Ruling} (ruled : Ruled s h file reply i k) where
+module _ (s : Settings) (h : Session) (file string frame reply : List ℕ) (i : ℕ) {k : Ruling} (e : k ≡ ruling s h file string reply i) where
+  refused-as : k .refusal ≡ refusal s h file string reply
+  refused-as = says s h file string reply i e .refused
+
   abbrev reacts : Fields → Act Session Unit
-  reacts f = does file (s .«segment_size») (react (frames file (s .«segment_size»)) h f)
+  reacts f = does s file string (react (frames s file) h f)
 
   denied : (k .refusal ≡ 0 → ⊥) → {session : Session} {answer : Written} → session ≡ h → answer ≡ refused (k .refusal)
-      → Leaves (loadFrame s h file frame reply) session answer tt reply
-  denied ne e f =
-      rw (e, f, ruled .refused) (frame-call-refused (refusal s h file reply) frame h tt reply reacts (λ z. ne (ruled .refused ∙ z)))
+      → Leaves (loadFrame s h file string frame reply) session answer tt reply
+  denied ne d f =
+      rw (d, f, refused-as) (frame-call-refused (refusal s h file string reply) frame h tt reply reacts (λ z. ne (refused-as ∙ z)))
 
   module _ (z : k .refusal ≡ 0) {f : Fields} (r : f ≡ fields frame) where
     number : f .refusal ≡ fields frame .refusal
     number = ap (λ (x : Fields). x .refusal) r
 
     unread : (f .refusal ≡ 0 → ⊥) → {session : Session} {answer : Written} → session ≡ h → answer ≡ refused (f .refusal)
-        → Leaves (loadFrame s h file frame reply) session answer tt reply
-    unread ne e g =
-        rw (e, g, number)
-        (frame-refused (refusal s h file reply) frame h tt reply reacts (sym (ruled .refused) ∙ z) (λ n. ne (number ∙ n)))
+        → Leaves (loadFrame s h file string frame reply) session answer tt reply
+    unread ne d g =
+        rw (d, g, number)
+        (frame-refused (refusal s h file string reply) frame h tt reply reacts (sym refused-as ∙ z) (λ n. ne (number ∙ n)))
 
     -- the segment found is the one that may go out
-    module _ (at : h .position ≤ addresses → i ≡ ahead h) {n : Next} (e : n ≡ react (k .many) h f) where
+    module _ (at : h .position ≤ addresses + 1 → i ≡ ahead h) {n : Next} (d : n ≡ react (k .many) h f) where
       bound : Bound (k .many) i h n
       bound =
-          let a = facts ruled z in
-          rw (at (omega (arith, a .fits .reached, a .few)), e) (react-bound (k .many) h (goes ruled z) f)
+          let a = facts s h file string reply i e z in
+          rw (at (omega (arith, a .fits .reached, a .few)), d) (react-bound (k .many) h (goes s h file string reply i e z) f)
 
-      does-next : f .refusal ≡ 0 → {session : Session} {answer : Written} {out : List ℕ} → Leaves (gives (acting file k n) reply) session answer tt out
-          → Leaves (loadFrame s h file frame reply) session answer tt out
+      does-next : f .refusal ≡ 0 → {session : Session} {answer : Written} {out : List ℕ} → Leaves (gives (acting s file string k n) reply) session answer tt out
+          → Leaves (loadFrame s h file string frame reply) session answer tt out
       does-next w l =
-          frame-accepted (refusal s h file reply) frame h tt reply reacts (sym (ruled .refused) ∙ z) (sym number ∙ w)
-          (given ruled z n bound (rw (ruled .counted z, r) at e) l)
+          frame-accepted (refusal s h file string reply) frame h tt reply reacts (sym refused-as ∙ z) (sym number ∙ w)
+          (given s h file string reply i e z n bound (rw (says s h file string reply i e .counted z, r) at d) l)
 
 ahead-requires : tie.Need-ahead-requires
 ahead-requires c κs = search needs
@@ -73,9 +76,9 @@ same-length c = search needs
 returns : tie.Need-returns
 returns c =
     let ruled = c .before .before .before in
-    let a = ruled .before .before .before .before .before .before .args in
+    let a = ruled .before .before .before .before .before .before .before .args in
     let e = c .refused .ensures in
-    denied (a .settings) (a .session) (a .file .now) (a .frame .now) (a .reply .now) (ruled .rule .ensures) (c .before .if1 .taken) (e .0) (e .1)
+    denied (a .settings) (a .session) (a .file .now) (a .parameters .now) (a .frame .now) (a .reply .now) _ (ruled .rule .ensures) (c .before .if1 .taken) (e .0) (e .1)
 
 read-requires : tie.Need-read-requires
 read-requires c κs = search needs
@@ -90,9 +93,9 @@ returns-2 : tie.Need-returns-2
 returns-2 c =
     let reading = c .before .before .before in
     let ruled = reading .before .before .before in
-    let a = ruled .before .before .before .before .before .before .args in
+    let a = ruled .before .before .before .before .before .before .before .args in
     let e = c .refused2 .ensures in
-    unread (a .settings) (a .session) (a .file .now) (a .frame .now) (a .reply .now) (ruled .rule .ensures) (reading .before .if1 .left) (reading .read .ensures)
+    unread (a .settings) (a .session) (a .file .now) (a .parameters .now) (a .frame .now) (a .reply .now) _ (ruled .rule .ensures) (reading .before .if1 .left) (reading .read .ensures)
     (c .before .if2 .taken) (e .0) (e .1)
 
 react-requires : tie.Need-react-requires
@@ -102,10 +105,10 @@ give-requires : tie.Need-give-requires
 give-requires c κs =
     let reading = c .before .before .before .before in
     let ruled = reading .before .before .before in
-    let a = ruled .before .before .before .before .before .before .args in
+    let a = ruled .before .before .before .before .before .before .before .args in
     let z = reading .before .if1 .left in
-    ready (ruled .rule .ensures) z (c .before .react .result)
-    (bound (a .settings) (a .session) (a .file .now) (a .frame .now) (a .reply .now) (ruled .rule .ensures) z (reading .read .ensures) (ruled .before .ahead .ensures) (c .before .react .ensures))
+    ready (a .settings) (a .session) (a .file .now) (a .parameters .now) (a .reply .now) _ (ruled .rule .ensures) z (c .before .react .result)
+    (bound (a .settings) (a .session) (a .file .now) (a .parameters .now) (a .frame .now) (a .reply .now) _ (ruled .rule .ensures) z (reading .read .ensures) (ruled .before .ahead .ensures) (c .before .react .ensures))
 
 same-length-3 : tie.Need-same-length-3
 same-length-3 c = search needs
@@ -115,8 +118,8 @@ returns-3 c =
     let reacted = c .before .before .before .before in
     let reading = reacted .before .before .before in
     let ruled = reading .before .before .before in
-    let a = ruled .before .before .before .before .before .before .args in
-    does-next (a .settings) (a .session) (a .file .now) (a .frame .now) (a .reply .now) (ruled .rule .ensures) (reading .before .if1 .left) (reading .read .ensures)
+    let a = ruled .before .before .before .before .before .before .before .args in
+    does-next (a .settings) (a .session) (a .file .now) (a .parameters .now) (a .frame .now) (a .reply .now) _ (ruled .rule .ensures) (reading .before .if1 .left) (reading .read .ensures)
     (ruled .before .ahead .ensures) (reacted .react .ensures) (reacted .before .if2 .left) (c .before .before .give .ensures)
 
 pub frame-spec : {M : Type 1} → statement M

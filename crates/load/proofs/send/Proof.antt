@@ -9,37 +9,41 @@ use borrow.Author.Needs.{needs}
 use borrow.Author.Tests.{eq-eqb, ne-eqb}
 use Rattle.buffer.specs.declared.Written.{Written}
 use Rattle.buffer.specs.Lay.{Came}
-use Rattle.message.specs.Message.{Message, memoryLoadTransfer, memoryLoad}
+use Rattle.message.specs.Message.{Message, memoryLoadTransfer, memoryLoad, parameters}
 use Rattle.message.specs.Write.{write, sent}
 use Rattle.image.specs.PartsLaws.{length-bytes}
 use Rattle.step.specs.Laws.{sent-by}
+use Rattle.load_record.specs.declared.Settings.{Settings}
 use Rattle.load_checks.specs.declared.Ruling.{Ruling}
 use Rattle.load.specs.Load.{numbered}
-use Rattle.load.specs.Laws.{numbered-listed, numbered-short}
+use Rattle.load.specs.Laws.{numbered-sent}
 use Rattle.load.specs.Inner.{piece, Sendable}
 use Rattle.load.proofs.send.Statement.{statement}
 use Rattle.load.proofs.send.Tie as tie
 
-module _ (file : List ℕ) (i : ℕ) (k : Ruling) where
+module _ (s : Settings) (file string : List ℕ) (i : ℕ) (k : Ruling) where
   abbrev frame : Message
-  frame = numbered (k .many) (k .transfer) i (piece file (k .segment))
+  frame = numbered s string (k .many) (k .transfer) i (piece file (k .segment))
 
   -- the segment's bytes, as they are cut from the file
   abbrev bytes : List ℕ
   bytes = take (k .segment .place + k .segment .length - k .segment .place) (drop (k .segment .place) file)
 
-  the-last : i + 1 ≡ k .many → memoryLoadTransfer (i % 256) (k .segment .address) bytes (k .transfer) ≡ frame
-  the-last e = rw (eq-eqb (i + 1) (k .many) e, add-sub-cancel-left)
-
   another : (i + 1 ≡ k .many → ⊥) → memoryLoad (i % 256) (k .segment .address) bytes ≡ frame
   another e = rw (ne-eqb (i + 1) (k .many) e, add-sub-cancel-left)
 
-  whole : {reply : List ℕ} → Sendable file i k reply → {m : Message} {answer : Written} {out : List ℕ} → m ≡ frame
+  module _ (e : i + 1 ≡ k .many) where
+    with-parameters : s .«with_parameters» ≡ 1 → parameters (i % 256) string (k .transfer) ≡ frame
+    with-parameters g = rw (eq-eqb (i + 1) (k .many) e, eq-eqb (s .«with_parameters») 1 g)
+
+    without : (s .«with_parameters» ≡ 1 → ⊥) → memoryLoadTransfer (i % 256) (k .segment .address) bytes (k .transfer) ≡ frame
+    without g = rw (eq-eqb (i + 1) (k .many) e, ne-eqb (s .«with_parameters») 1 g, add-sub-cancel-left)
+
+  whole : {reply : List ℕ} → Sendable s file string i k reply → {m : Message} {answer : Written} {out : List ℕ} → m ≡ frame
       → Came (write m reply) answer out → Came (sent frame reply) answer out
   whole {reply} r e c =
-      sent-by frame reply (numbered-listed (k .many) (k .transfer) i (piece file (k .segment)))
-      (numbered-short (k .many) (k .transfer) i (piece file (k .segment)) (omega (arith, r .short, length-bytes file (k .segment) (r .within))))
-      (r .room) (rw e at c)
+      let w = numbered-sent s string (k .many) (k .transfer) i (piece file (k .segment)) (r .parameters) (omega (arith, r .short, length-bytes file (k .segment) (r .within))) in
+      sent-by frame reply (w .0) (w .1) (r .room) (rw e at c)
 
 cast-number : tie.Need-cast-number
 cast-number c = search needs
@@ -52,7 +56,7 @@ cast-end c = search needs
 
 add-end : tie.Need-add-end
 add-end c =
-    let went = c .before .before .before .before in
+    let went = c .before .before .before .before .before in
     omega (arith, went .pre .within, went .good)
 
 sub-bytes : tie.Need-sub-bytes
@@ -62,13 +66,13 @@ part-bytes-start : tie.Need-part-bytes-start
 part-bytes-start c = search needs
 
 part-bytes-end : tie.Need-part-bytes-end
-part-bytes-end c = c .before .before .before .before .pre .within
+part-bytes-end c = c .before .before .before .before .before .pre .within
 
 add-if1 : tie.Need-add-if1
-add-if1 c = omega (arith, c .before .before .before .before .before .pre .few)
+add-if1 c = omega (arith, c .before .before .before .before .before .before .pre .few)
 
-memory-load-transfer-requires : tie.Need-memory-load-transfer-requires
-memory-load-transfer-requires c κs = search needs
+memory-load-requires : tie.Need-memory-load-requires
+memory-load-requires c κs = search needs
 
 same-length : tie.Need-same-length
 same-length c = search needs
@@ -76,12 +80,12 @@ same-length c = search needs
 returns : tie.Need-returns
 returns c =
     let written = c .before .before in
-    let k = written .before .before .before .before .before .before .before .before .before in
-    whole (k .args .file .now) (k .args .index) (k .args .k) (k .pre) (the-last (k .args .file .now) (k .args .index) (k .args .k) (written .before .before .if1 .taken))
-    (written .memory-load-transfer .ensures)
+    let k = written .before .before .before .before .before .before .before .before .before .before in
+    whole (k .args .settings) (k .args .file .now) (k .args .parameters .now) (k .args .index) (k .args .k) (k .pre)
+    (another (k .args .settings) (k .args .file .now) (k .args .parameters .now) (k .args .index) (k .args .k) (λ e. omega arith)) (written .memory-load .ensures)
 
-memory-load-requires : tie.Need-memory-load-requires
-memory-load-requires c κs = search needs
+parameters-requires : tie.Need-parameters-requires
+parameters-requires c κs = search needs
 
 same-length-2 : tie.Need-same-length-2
 same-length-2 c = search needs
@@ -89,9 +93,22 @@ same-length-2 c = search needs
 returns-2 : tie.Need-returns-2
 returns-2 c =
     let written = c .before .before in
-    let k = written .before .before .before .before .before .before .before .before .before in
-    whole (k .args .file .now) (k .args .index) (k .args .k) (k .pre) (another (k .args .file .now) (k .args .index) (k .args .k) (written .before .before .if1 .left))
-    (written .memory-load .ensures)
+    let k = written .before .before .before .before .before .before .before .before .before .before .before .before in
+    whole (k .args .settings) (k .args .file .now) (k .args .parameters .now) (k .args .index) (k .args .k) (k .pre)
+    (with-parameters (k .args .settings) (k .args .file .now) (k .args .parameters .now) (k .args .index) (k .args .k) (omega arith) (omega arith)) (written .parameters .ensures)
+
+memory-load-transfer-requires : tie.Need-memory-load-transfer-requires
+memory-load-transfer-requires c κs = search needs
+
+same-length-3 : tie.Need-same-length-3
+same-length-3 c = search needs
+
+returns-3 : tie.Need-returns-3
+returns-3 c =
+    let written = c .before .before in
+    let k = written .before .before .before .before .before .before .before .before .before .before .before .before in
+    whole (k .args .settings) (k .args .file .now) (k .args .parameters .now) (k .args .index) (k .args .k) (k .pre)
+    (without (k .args .settings) (k .args .file .now) (k .args .parameters .now) (k .args .index) (k .args .k) (omega arith) (λ e. omega arith)) (written .memory-load-transfer .ensures)
 
 pub send-spec : {M : Type 1} → statement M
 send-spec =
@@ -105,9 +122,12 @@ send-spec =
     part-bytes-start
     part-bytes-end
     add-if1
-    memory-load-transfer-requires
+    memory-load-requires
     same-length
     returns
-    memory-load-requires
+    parameters-requires
     same-length-2
-    returns-2)
+    returns-2
+    memory-load-transfer-requires
+    same-length-3
+    returns-3)

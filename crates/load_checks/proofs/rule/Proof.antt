@@ -1,10 +1,11 @@
 -- `load_checks::rule` meets its contract.
-use Prim.Native.Nat.{ℕ, _≤_, _<_}
+use Prim.Native.Nat.{ℕ, _+_, _≤_, _<_}
 use mathlib.Core.Path.{_≡_, sym, _∙_}
-use mathlib.Core.Bool.{Bool, true, false, not}
+use mathlib.Core.Bool.{Bool, true, false, not, cond as pick}
 use mathlib.Core.List.{List}
 use native.Mathlib.Omega.{arith}
 use lib.ListN.{length}
+use lib.Dec.{eqb}
 use borrow.Author.Needs.{needs}
 use borrow.Author.Tests.{le-leb, lt-leb, eq-eqb, ne-eqb, not-true, not-false}
 use Rattle.image.specs.declared.Tally.{Tally}
@@ -16,8 +17,8 @@ use Rattle.step.specs.Step.{first}
 use Rattle.load_record.specs.declared.Settings.{Settings}
 use Rattle.load_record.specs.declared.Session.{Session}
 use Rattle.load_checks.specs.declared.Ruling.{Ruling}
-use Rattle.load_checks.specs.Checks.{settled, sound, consistent, refusal, Ruled}
-use Rattle.load_checks.specs.Laws.{set, cut-image}
+use Rattle.load_checks.specs.Checks.{framesOf, settled, sound, consistent, stringRefusal, refusal, denied, accepts, ruling}
+use Rattle.load_checks.specs.Laws.{set, cut-image, frames-few}
 use Rattle.load_checks.proofs.rule.Statement.{statement}
 use Rattle.load_checks.proofs.rule.Tie as tie
 
@@ -39,55 +40,57 @@ module _ (s : Settings) (file : List ℕ) (i : ℕ) (a : settled s ≡ true) {t 
       rw (k .numbered) (many-range file (s .«segment_size») (k .none) .1)
 
 -- the ways through the refusals, in their order
-module _ {s : Settings} {h : Session} {file reply : List ℕ} {i : ℕ} where
-  refusing : {r : Ruling} {m : ℕ} → r .refusal ≡ m → (m ≡ 0 → ⊥) → m ≡ refusal s h file reply → Ruled s h file reply i r
-  refusing e ne w =
-      record {
-        refused = e ∙ w;
-        counted = λ z. absurd (ne (sym e ∙ z));
-        started = λ z. absurd (ne (sym e ∙ z));
-        reached = λ z. absurd (ne (sym e ∙ z));
-      }
+module _ (s : Settings) (h : Session) (file string reply : List ℕ) (i : ℕ) where
+  refusing : {r : Ruling} (m : ℕ) → r ≡ denied m → (m ≡ 0 → ⊥) → m ≡ refusal s h file string reply → r ≡ ruling s h file string reply i
+  refusing m e ne w = e ∙ go (refusal s h file string reply) w
+    where
+      go : (x : ℕ) → m ≡ x → denied m ≡ pick (eqb x 0) (accepts s file i) (denied x)
+      go x q = rw (← q, ne-eqb m 0 ne)
 
-  unsettled : {r : Ruling} → settled s ≡ false → r .refusal ≡ 10 → Ruled s h file reply i r
+  unsettled : {r : Ruling} → settled s ≡ false → r ≡ denied 10 → r ≡ ruling s h file string reply i
   unfolding first
-  unsettled bad e = refusing e (λ z. omega arith) (rw bad)
+  unsettled bad e = refusing 10 e (λ z. omega arith) (rw bad)
 
   module _ (a : settled s ≡ true) where
-    unsound : {r : Ruling} → sound s h ≡ false → r .refusal ≡ 10 → Ruled s h file reply i r
+    unsound : {r : Ruling} → sound s h ≡ false → r ≡ denied 10 → r ≡ ruling s h file string reply i
     unfolding first
-    unsound bad e = refusing e (λ z. omega arith) (rw (a, bad))
+    unsound bad e = refusing 10 e (λ z. omega arith) (rw (a, bad))
 
     module _ (b : sound s h ≡ true) where
-      no-room : {r : Ruling} → length reply < 1500 → r .refusal ≡ 9 → Ruled s h file reply i r
+      no-room : {r : Ruling} → length reply < 1500 → r ≡ denied 9 → r ≡ ruling s h file string reply i
       unfolding first
-      no-room l e = refusing e (λ z. omega arith) (rw (a, b, lt-leb 1500 (length reply) l))
+      no-room l e = refusing 9 e (λ z. omega arith) (rw (a, b, lt-leb 1500 (length reply) l))
 
       module _ (l : 1500 ≤ length reply) {t : Tally} (f : t ≡ surveyed file (s .«segment_size») i) where
-        no-image : {r : Ruling} → (t .refusal ≡ 0 → ⊥) → r .refusal ≡ t .refusal → Ruled s h file reply i r
+        no-image : {r : Ruling} → (t .refusal ≡ 0 → ⊥) → r ≡ denied (t .refusal) → r ≡ ruling s h file string reply i
         unfolding first
         no-image ne e =
-            refusing e ne (rw (a, b, le-leb 1500 (length reply) l, ← images s file i a f, ne-eqb (t .refusal) 0 ne))
+            refusing (t .refusal) e ne (rw (a, b, le-leb 1500 (length reply) l, ← images s file i a f, ne-eqb (t .refusal) 0 ne))
 
-        module _ (z : t .refusal ≡ 0) where
-          inconsistent : {r : Ruling} → consistent (t .segments) s h ≡ false → r .refusal ≡ 10 → Ruled s h file reply i r
+        module _ (z : t .refusal ≡ 0) (n : ℕ) (m : n ≡ framesOf s (t .segments)) where
+          inconsistent : {r : Ruling} → consistent n s h ≡ false → r ≡ denied 10 → r ≡ ruling s h file string reply i
           unfolding first
           inconsistent bad e =
               let k = agrees file (s .«segment_size») i f z in
-              refusing e (λ n. omega arith)
-              (rw (a, b, le-leb 1500 (length reply) l, eq-eqb (imageRefusal file) 0 (sym (images s file i a f) ∙ z), ← k .numbered, bad))
+              refusing 10 e (λ n. omega arith)
+              (rw (a, b, le-leb 1500 (length reply) l, eq-eqb (imageRefusal file) 0 (sym (images s file i a f) ∙ z), ← k .numbered, ← m, bad))
 
-          taken : consistent (t .segments) s h ≡ true
-              → Ruled s h file reply i (record { refusal = 0; many = t .segments; transfer = t .transfer; segment = t .segment })
-          unfolding first
-          taken good =
-              let k = agrees file (s .«segment_size») i f z in
-              record {
-                refused = rw (a, b, le-leb 1500 (length reply) l, eq-eqb (imageRefusal file) 0 (sym (images s file i a f) ∙ z), ← k .numbered, good);
-                counted = λ _. k .numbered;
-                started = λ _. k .started;
-                reached = λ _. k .reached;
-              }
+          module _ (good : consistent n s h ≡ true) (wrong : ℕ) (w : wrong ≡ stringRefusal s string) where
+            bad-string : {r : Ruling} → (wrong ≡ 0 → ⊥) → r ≡ denied wrong → r ≡ ruling s h file string reply i
+            unfolding first
+            bad-string ne e =
+                let k = agrees file (s .«segment_size») i f z in
+                refusing wrong e ne
+                (rw (a, b, le-leb 1500 (length reply) l, eq-eqb (imageRefusal file) 0 (sym (images s file i a f) ∙ z), ← k .numbered, ← m, good, ← w, ne-eqb wrong 0 ne))
+
+            taken : wrong ≡ 0 → record { refusal = 0; many = n; transfer = t .transfer; segment = t .segment } ≡ ruling s h file string reply i
+            unfolding first
+            taken none = go (refusal s h file string reply)
+                (rw (a, b, le-leb 1500 (length reply) l, eq-eqb (imageRefusal file) 0 (sym (images s file i a f) ∙ z), ← agrees file (s .«segment_size») i f z .numbered, ← m, good, ← w, none))
+              where
+                go : (x : ℕ) → x ≡ 0
+                    → _≡_ {A = Ruling} (record { refusal = 0; many = n; transfer = t .transfer; segment = t .segment }) (pick (eqb x 0) (accepts s file i) (denied x))
+                go x q = let k = agrees file (s .«segment_size») i f z in rw (q, m, k .numbered, k .started, k .reached)
 
 settled-requires : tie.Need-settled-requires
 settled-requires c κs = search needs
@@ -97,7 +100,8 @@ denied-requires c κs = search needs
 
 returns : tie.Need-returns
 returns c =
-    unsettled (fails (c .before .before .settled .ensures) (c .before .if1 .taken)) (c .denied .ensures)
+    let a = c .before .before .before .before .before .before .args in
+    unsettled (a .settings) (a .session) (a .file .now) (a .parameters .now) (a .reply .now) (a .index) (fails (c .before .before .settled .ensures) (c .before .if1 .taken)) (c .denied .ensures)
 
 sound-requires : tie.Need-sound-requires
 sound-requires c κs = search needs
@@ -108,7 +112,8 @@ denied-requires-2 c κs = search needs
 returns-2 : tie.Need-returns-2
 returns-2 c =
     let first = c .before .before .before in
-    unsound (holds (first .before .settled .ensures) (first .if1 .left)) (fails (c .before .before .sound .ensures) (c .before .if2 .taken)) (c .denied2 .ensures)
+    let a = first .before .before .before .before .before .args in
+    unsound (a .settings) (a .session) (a .file .now) (a .parameters .now) (a .reply .now) (a .index) (holds (first .before .settled .ensures) (first .if1 .left)) (fails (c .before .before .sound .ensures) (c .before .if2 .taken)) (c .denied2 .ensures)
 
 denied-requires-3 : tie.Need-denied-requires-3
 denied-requires-3 c κs = search needs
@@ -117,7 +122,8 @@ returns-3 : tie.Need-returns-3
 returns-3 c =
     let second = c .before .before in
     let first = second .before .before in
-    no-room (holds (first .before .settled .ensures) (first .if1 .left)) (holds (second .before .sound .ensures) (second .if2 .left)) (omega arith) (c .denied3 .ensures)
+    let a = first .before .before .before .before .before .args in
+    no-room (a .settings) (a .session) (a .file .now) (a .parameters .now) (a .reply .now) (a .index) (holds (first .before .settled .ensures) (first .if1 .left)) (holds (second .before .sound .ensures) (second .if2 .left)) (omega arith) (c .denied3 .ensures)
 
 survey-requires : tie.Need-survey-requires
 survey-requires c κs = search needs
@@ -130,37 +136,69 @@ returns-4 c =
     let surveyed = c .before .before .before in
     let second = surveyed .before .before in
     let first = second .before .before in
-    no-image (holds (first .before .settled .ensures) (first .if1 .left)) (holds (second .before .sound .ensures) (second .if2 .left)) (omega arith)
+    let a = first .before .before .before .before .before .args in
+    no-image (a .settings) (a .session) (a .file .now) (a .parameters .now) (a .reply .now) (a .index) (holds (first .before .settled .ensures) (first .if1 .left)) (holds (second .before .sound .ensures) (second .if2 .left)) (omega arith)
     (surveyed .survey .ensures) (c .before .if4 .taken) (c .denied4 .ensures)
+
+frames-requires : tie.Need-frames-requires
+frames-requires c κs =
+    let surveyed = c .before .before in
+    let first = surveyed .before .before .before .before in
+    let a = first .before .before .before .before .before .args in
+    let good = holds (first .before .settled .ensures) (first .if1 .left) in
+    few (a .settings) (a .file .now) (a .index) good (surveyed .survey .ensures) (c .if4 .left)
 
 consistent-requires : tie.Need-consistent-requires
 consistent-requires c κs =
-    let surveyed = c .before .before in
+    let surveyed = c .before .before .before in
     let first = surveyed .before .before .before .before in
-    let a = first .before .before .before .before .args in
+    let a = first .before .before .before .before .before .args in
     let good = holds (first .before .settled .ensures) (first .if1 .left) in
-    (few (a .settings) (a .file .now) (a .index) good (surveyed .survey .ensures) (c .if4 .left), set (a .settings) good .few)
+    let most = few (a .settings) (a .file .now) (a .index) good (surveyed .survey .ensures) (c .before .if4 .left) in
+    (omega (arith, c .frames .ensures, frames-few (a .settings) (surveyed .survey .result .segments) .1), set (a .settings) good .few)
 
 denied-requires-5 : tie.Need-denied-requires-5
 denied-requires-5 c κs = search needs
 
 returns-5 : tie.Need-returns-5
 returns-5 c =
-    let accepted = c .before .before .before in
-    let surveyed = accepted .before .before in
+    let counted = c .before .before .before in
+    let surveyed = counted .before .before .before in
     let second = surveyed .before .before in
     let first = second .before .before in
-    inconsistent (holds (first .before .settled .ensures) (first .if1 .left)) (holds (second .before .sound .ensures) (second .if2 .left)) (omega arith)
-    (surveyed .survey .ensures) (accepted .if4 .left) (fails (c .before .before .consistent .ensures) (c .before .if5 .taken)) (c .denied5 .ensures)
+    let a = first .before .before .before .before .before .args in
+    inconsistent (a .settings) (a .session) (a .file .now) (a .parameters .now) (a .reply .now) (a .index) (holds (first .before .settled .ensures) (first .if1 .left)) (holds (second .before .sound .ensures) (second .if2 .left)) (omega arith)
+    (surveyed .survey .ensures) (counted .before .if4 .left) _ (counted .frames .ensures) (fails (c .before .before .consistent .ensures) (c .before .if5 .taken)) (c .denied5 .ensures)
+
+string-refusal-requires : tie.Need-string-refusal-requires
+string-refusal-requires c κs = search needs
+
+denied-requires-6 : tie.Need-denied-requires-6
+denied-requires-6 c κs = search needs
 
 returns-6 : tie.Need-returns-6
 returns-6 c =
-    let accepted = c .before .before .before in
-    let surveyed = accepted .before .before in
+    let judged = c .before .before in
+    let counted = judged .before .before .before in
+    let surveyed = counted .before .before .before in
     let second = surveyed .before .before in
     let first = second .before .before in
-    taken (holds (first .before .settled .ensures) (first .if1 .left)) (holds (second .before .sound .ensures) (second .if2 .left)) (omega arith)
-    (surveyed .survey .ensures) (accepted .if4 .left) (holds (c .before .before .consistent .ensures) (c .before .if5 .left))
+    let a = first .before .before .before .before .before .args in
+    bad-string (a .settings) (a .session) (a .file .now) (a .parameters .now) (a .reply .now) (a .index) (holds (first .before .settled .ensures) (first .if1 .left)) (holds (second .before .sound .ensures) (second .if2 .left)) (omega arith)
+    (surveyed .survey .ensures) (counted .before .if4 .left) _ (counted .frames .ensures) (holds (judged .before .before .consistent .ensures) (judged .before .if5 .left))
+    _ (judged .string-refusal .ensures) (c .before .if6 .taken) (c .denied6 .ensures)
+
+returns-7 : tie.Need-returns-7
+returns-7 c =
+    let judged = c .before .before in
+    let counted = judged .before .before .before in
+    let surveyed = counted .before .before .before in
+    let second = surveyed .before .before in
+    let first = second .before .before in
+    let a = first .before .before .before .before .before .args in
+    taken (a .settings) (a .session) (a .file .now) (a .parameters .now) (a .reply .now) (a .index) (holds (first .before .settled .ensures) (first .if1 .left)) (holds (second .before .sound .ensures) (second .if2 .left)) (omega arith)
+    (surveyed .survey .ensures) (counted .before .if4 .left) _ (counted .frames .ensures) (holds (judged .before .before .consistent .ensures) (judged .before .if5 .left))
+    _ (judged .string-refusal .ensures) (c .before .if6 .left)
 
 pub rule-spec : {M : Type 1} → statement M
 rule-spec =
@@ -177,7 +215,11 @@ rule-spec =
     survey-requires
     denied-requires-4
     returns-4
+    frames-requires
     consistent-requires
     denied-requires-5
     returns-5
-    returns-6)
+    string-refusal-requires
+    denied-requires-6
+    returns-6
+    returns-7)

@@ -17,8 +17,13 @@ returns-2 c =
 
 returns-3 : tie.Need-returns-3
 returns-3 c =
-    let a = c .before .before .before .before .before .args in
-    simp (le-leb 1 (a .settings .«segment_size») (omega arith), le-leb (a .settings .«segment_size») widest (omega arith))
+    let a = c .before .before .before .before .before .before .args in
+    simp (le-leb 1 (a .settings .«segment_size») (omega arith), le-leb (a .settings .«segment_size») widest (omega arith), lt-leb (a .settings .repeats) 255 (omega arith))
+
+returns-4 : tie.Need-returns-4
+returns-4 c =
+    let a = c .before .before .before .before .before .before .before .args in
+    simp (le-leb 1 (a .settings .«segment_size») (omega arith), le-leb (a .settings .«segment_size») widest (omega arith), le-leb (a .settings .repeats) 255 (omega arith))
 
 pub settled-spec : {M : Type 1} → statement M
-settled-spec = tie.close (tie.spec returns returns-2 returns-3)
+settled-spec = tie.close (tie.spec returns returns-2 returns-3 returns-4)

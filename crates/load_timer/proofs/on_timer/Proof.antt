@@ -31,7 +31,7 @@ returns-3 : tie.Need-returns-3
 returns-3 c =
     let a = c .before .before .before .before .before .before .before .before .args in
     simp (eq-eqb (a .session .verdict) 0 (omega arith), eq-eqb (a .session .waiting) 0 (omega arith), lt-ltb (a .session .repeats) (a .limit) (omega arith))
-    (rw (← c .before .repeated .ensures (omega arith)) (c .goes-out .ensures))
+    (rw (← c .before .repeated .ensures .0 (omega arith)) (c .goes-out .ensures))
 
 more-requires : tie.Need-more-requires
 more-requires c κs = search needs

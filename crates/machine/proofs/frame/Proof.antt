@@ -42,18 +42,23 @@ returns-2 c =
 react-requires : tie.Need-react-requires
 react-requires c κs = search needs
 
+keep-requires : tie.Need-keep-requires
+keep-requires c κs =
+    let k = c .before .before .before in
+    rw (k .read .ensures) (fields-inside (k .before .before .before .before .before .before .args .frame .now))
+
 send-requires : tie.Need-send-requires
 send-requires c κs =
-    let k = c .before .before .before .before .before in
+    let k = c .before .before .before .before .before .before in
     let a = k .before .before .before .before .before .before .args in
     let range = in-range (a .settings) (a .machine) (length (a .memory .now)) (length (a .reply .now)) (sym (k .before .before .refusal .ensures) ∙ k .before .if1 .left) in
     let octets : Octets (a .frame .now) = λ i l. omega (arith, k .before .before .before .before .before .shared-slice-known .given i) in
-    let short = decided-short (a .settings) (a .machine) (a .frame .now) (a .memory .now) (a .reply .now) (k .read .result) (c .before .before .react .result) (k .read .ensures) (c .before .before .react .ensures) octets (c .before .before .before .if2 .left) (range .1) in
+    let short = decided-short (a .settings) (a .machine) (a .frame .now) (a .memory .now) (a .reply .now) (k .read .result) (c .before .before .before .react .result) (k .read .ensures) (c .before .before .before .react .ensures) octets (c .before .before .before .before .if2 .left) (range .1) in
     (rw (k .read .ensures) (fields-inside (a .frame .now)), (short, range .2))
 
 store-requires : tie.Need-store-requires
 store-requires c κs =
-    let k = c .before .before .before .before .before .before .before .before .before in
+    let k = c .before .before .before .before .before .before .before .before .before .before in
     rw (k .read .ensures) (fields-inside (k .before .before .before .before .before .before .args .frame .now))
 
 same-length : tie.Need-same-length
@@ -65,11 +70,12 @@ same-length-2 c = search needs
 returns-3 : tie.Need-returns-3
 returns-3 c =
     let went = c .before .before .before .before .before .before in
-    let k = went .before .before .before .before .before .before in
+    let k = went .before .before .before .before .before .before .before in
     let a = k .before .before .before .before .before .before .args in
-    let next = went .before .before .before .react in
-    let l = decided-leaves (a .settings) (a .machine) (a .frame .now) (a .memory .now) (a .reply .now) (k .read .result) (next .result) (k .read .ensures) (next .ensures) (went .send .ensures) (c .before .before .store .ensures) in
-    let none = rw (k .read .ensures) at (went .before .before .before .before .if2 .left) in
+    let next = went .before .before .before .before .react in
+    let kept = went .before .before .before .keep .ensures in
+    let l = decided-leaves (a .settings) (a .machine) (a .frame .now) (a .memory .now) (a .reply .now) (k .read .result) (next .result) (k .read .ensures) (next .ensures) (rw kept at (went .send .ensures)) (c .before .before .store .ensures) in
+    let none = rw (k .read .ensures) at (went .before .before .before .before .before .if2 .left) in
     rw (← k .before .before .refusal .ensures)
     (frame-accepted (k .before .before .refusal .result) (a .frame .now) (a .machine) (a .memory .now) (a .reply .now) (λ (f : Fields). react (a .settings) (a .machine) f (a .frame .now) (a .memory .now)) (k .before .if1 .left) none l)
 
@@ -84,6 +90,7 @@ frame-spec =
     refused-requires-2
     returns-2
     react-requires
+    keep-requires
     send-requires
     store-requires
     same-length

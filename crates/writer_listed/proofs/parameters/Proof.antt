@@ -1,48 +1,41 @@
 use borrow.Author.Needs.{needs}
-use mathlib.Core.Path.{_≡_, refl, ap, sym, _∙_}
+use mathlib.Core.Path.{_≡_, refl, sym, _∙_}
 use Prim.Native.Nat.{ℕ}
 use mathlib.Core.Bool.{true, false}
 use mathlib.Core.List.{List, [], _∷_, _++_}
 use lib.ListN.{getD}
 use borrow.Author.Tests.{not-true, not-false}
 use Rattle.octets.specs.Number.{low}
-use Rattle.entries_next.specs.declared.Place.the-variants.{Kind}
-use Rattle.entries.specs.Entries.{walk}
 use Rattle.message.specs.Message.{parameters}
 use Rattle.message.specs.Write.{layout, entryList, write}
 use Rattle.message.specs.Laws.{wrote}
-use Rattle.writer_listed.specs.Inner.{whole}
-use Rattle.writer_listed.proofs.Listed.{listed-as}
 use Rattle.writer_listed.proofs.parameters.Statement.{statement}
 use Rattle.writer_listed.proofs.parameters.Tie as tie
 
-walk-requires : tie.Need-walk-requires
-walk-requires c κs = search needs
-
-whole-requires : tie.Need-whole-requires
-whole-requires c κs = search needs
+listed-requires : tie.Need-listed-requires
+listed-requires c κs = search needs
 
 returns : tie.Need-returns
 unfolding write
 returns c =
-    let a = c .before .before .before .before .before .args in
-    let no : entryList (a .entries .now) .listed ≡ false = listed-as (a .entries .now) ∙ sym (c .before .whole .ensures ∙ ap whole (c .before .before .walk .ensures)) ∙ not-true _ (c .if1 .taken) in
+    let a = c .before .before .before .before .args in
+    let no : entryList (a .entries .now) .listed ≡ false = sym (c .before .listed .ensures) ∙ not-true _ (c .if1 .taken) in
     rw no (refl, refl)
 
 low32-requires : tie.Need-low32-requires
 low32-requires c κs = search needs
 
-array-read-t14 : tie.Need-array-read-t14
-array-read-t14 c = search needs
+array-read-t13 : tie.Need-array-read-t13
+array-read-t13 c = search needs
 
-array-read-t17 : tie.Need-array-read-t17
-array-read-t17 c = search needs
+array-read-t16 : tie.Need-array-read-t16
+array-read-t16 c = search needs
 
-array-read-t20 : tie.Need-array-read-t20
-array-read-t20 c = search needs
+array-read-t19 : tie.Need-array-read-t19
+array-read-t19 c = search needs
 
-array-read-t23 : tie.Need-array-read-t23
-array-read-t23 c = search needs
+array-read-t22 : tie.Need-array-read-t22
+array-read-t22 c = search needs
 
 slice-aggregate-lay-three : tie.Need-slice-aggregate-lay-three
 slice-aggregate-lay-three c = search needs
@@ -60,26 +53,25 @@ returns-2 : tie.Need-returns-2
 unfolding layout low
 returns-2 c =
     let went = c .before .before .before .before .before .before in
-    let a = went .before .before .before .before .before .before .args in
+    let a = went .before .before .before .before .before .args in
     let t = went .low32 .result in
     let m = parameters (a .number) (a .entries .now) (a .transfer) in
     let f : List ℕ = 20 ∷ a .number ∷ (a .entries .now ++ (0 ∷ getD t 0 0 ∷ getD t 1 0 ∷ getD t 2 0 ∷ getD t 3 0 ∷ [])) in
     let e : f ≡ layout m = rw (went .low32 .ensures) in
-    let all : entryList (a .entries .now) .listed ≡ true = listed-as (a .entries .now) ∙ sym (went .before .before .whole .ensures ∙ ap whole (went .before .before .before .walk .ensures)) ∙ not-false _ (went .before .if1 .left) in
+    let all : entryList (a .entries .now) .listed ≡ true = sym (went .before .before .listed .ensures) ∙ not-false _ (went .before .if1 .left) in
     wrote m (a .out .now) f (c .before .before .lay-three .ensures) e (rw all)
 
 pub parameters-spec : {M : Type 1} → statement M
 parameters-spec =
     tie.close
     (tie.spec
-    walk-requires
-    whole-requires
+    listed-requires
     returns
     low32-requires
-    array-read-t14
-    array-read-t17
-    array-read-t20
-    array-read-t23
+    array-read-t13
+    array-read-t16
+    array-read-t19
+    array-read-t22
     slice-aggregate-lay-three
     slice-aggregate-lay-three-2
     lay-three-requires

@@ -1,0 +1,324 @@
+//! Compares loads that end with parameters: their last frames, strings of every
+//! sort in every call, and the order of refusals.
+
+use super::load::{EXAMPLE_SETTINGS, Load, ended, example, numbers, running};
+use super::strings::{Judged, set_strings};
+use super::{Case, Event, ROOM, first, frames, room_refusal};
+use crate::images::{self, Region};
+use crate::tally::Hex;
+use crate::{Compare, Wanted};
+use mop_plain::frame::Frame;
+use mop_plain::load::Session;
+use mop_proved::LoadSettings;
+
+const REQUEST: [u8; 6] = [8, 0, 1, 2, 255, 0];
+
+/// Frames, each with its refusal.
+const FRAMES: [(&[u8], u8); 10] = [
+    (&REQUEST, 0),
+    (&[10, 1, 0], 0),
+    (&[10, 2, 0], 0),
+    (&[10, 3, 0], 0),
+    (&[10, 3, 1], 0),
+    (&[20, 0, 0, 1, 2, 3, 4], 0),
+    (&[], 1),
+    (&[10, 1, 0, 0], 2),
+    (&[16], 3),
+    (&[8, 0, 1, 3, 0, 0], 4),
+];
+
+/// Settings and records that break a rule before all else is judged.
+type Early = fn(&mut LoadSettings, &mut mop_proved::Load);
+const EARLY: [(Early, u8); 8] = [
+    (|_, _| (), 0),
+    (|settings, _| settings.segment_size = 0, 10),
+    (|settings, _| settings.repeats = 256, 10),
+    (|settings, _| settings.with_parameters = 2, 10),
+    (|settings, _| settings.with_parameters = 255, 10),
+    (|_, record| record.verdict = 5, 10),
+    (|_, record| record.repeats = 2, 10),
+    (|_, record| record.waiting = 2, 10),
+];
+
+/// The rehearsal's example, with this mark and string: 2 segments.
+fn example_with<'a>(file: &'a [u8], mark: u8, string: &'a [u8]) -> Load<'a> {
+    Load {
+        settings: LoadSettings {
+            with_parameters: mark,
+            ..EXAMPLE_SETTINGS
+        },
+        file: Hex(file),
+        parameters: Hex(string),
+    }
+}
+
+/// The same settings, but for segments of one byte.
+fn one_byte<'a>(file: &'a [u8], mark: u8, string: &'a [u8]) -> Load<'a> {
+    let mut end = example_with(file, mark, string);
+    end.settings.segment_size = 1;
+    end
+}
+
+/// Images, each with its refusal; the first is the example.
+fn images() -> [(Vec<u8>, u8); 5] {
+    let region = |length| Region {
+        address: 0,
+        offset: 0,
+        length,
+    };
+    [
+        (example(), 0),
+        (vec![], 5),
+        (images::build(&[7], &[], 0), 6),
+        (images::build(&[7], &[region(0)], 0), 7),
+        (images::build(&[7], &[region(1), region(1)], 0), 8),
+    ]
+}
+
+impl Compare {
+    pub fn load_parameters(&mut self) {
+        self.parameters_set_cases();
+        for segments in [1, 255, 256, 257, 512] {
+            self.last_frames(segments);
+            for mark in [0, 1] {
+                self.end_of_load(segments, mark);
+            }
+        }
+        let strings = set_strings(&mut self.random);
+        for (string, refusal) in &strings {
+            self.string_in_every_call(string, *refusal);
+            self.string_tried(string, *refusal);
+        }
+        self.order_of_refusals(&strings);
+    }
+
+    /// The rehearsal's example with a name, then with the empty string.
+    fn parameters_set_cases(&mut self) {
+        let file = example();
+        let end = example_with(&file, 1, &[1, 2, 65, 66]);
+        let frame = |frame| Event::Frame(Hex(frame));
+        let timer = Event::Timer;
+        let waiting = numbers(Session::Waiting);
+        let first: Option<&[u8]> = Some(&[2, 0, 2, 0, 0, 0, 10, 11]);
+        let second: Option<&[u8]> = Some(&[2, 1, 4, 0, 0, 0, 12]);
+        let last: Option<&[u8]> = Some(&[20, 2, 1, 2, 65, 66, 0, 2, 0, 0, 0]);
+        #[rustfmt::skip]
+        let cases = [
+            (waiting, frame(&REQUEST), running(0, 0, 1), first),
+            (waiting, timer, waiting, None),
+            (running(0, 1, 2), frame(&[10, 1, 0]), running(1, 0, 3), second),
+            (running(1, 1, 3), frame(&[10, 2, 0]), running(2, 0, 4), last),
+            (running(2, 0, 4), frame(&[10, 2, 0]), running(2, 0, 4), None),
+            (running(2, 1, 4), frame(&[10, 3, 0]), ended(1, 3, 0, 4), None),
+            (running(2, 1, 4), frame(&[10, 3, 9]), ended(2, 2, 1, 4), None),
+            (running(1, 0, 3), timer, running(1, 1, 4), second),
+            // Silence after the last segment is a failure: a frame is missing.
+            (running(1, 1, 3), timer, ended(3, 1, 1, 3), None),
+            (running(2, 0, 4), timer, running(2, 1, 5), last),
+            (running(2, 1, 4), timer, ended(4, 2, 1, 4), None),
+            (ended(1, 3, 0, 4), timer, ended(1, 3, 0, 4), None),
+            (ended(1, 3, 0, 4), frame(&[10, 3, 0]), ended(1, 3, 0, 4), None),
+            // A record at its bound of frames sent is not bad.
+            (running(2, 0, 6), timer, running(2, 1, 7), last),
+        ];
+        for (before, event, after, frame) in cases {
+            self.set_case(&end, before, event, &[], (after, frame, &[]));
+        }
+        let empty = example_with(&file, 1, &[]);
+        let wanted = (running(2, 1, 5), Some(&[20, 2, 0, 2, 0, 0, 0][..]), &[][..]);
+        self.set_case(&empty, running(2, 0, 4), timer, &[], wanted);
+    }
+
+    /// What goes out at the end of a load of so many segments, by the protocol:
+    /// the numbers come round at 256.
+    fn last_frames(&mut self, segments: u64) {
+        let body = self.random.bytes(segments as usize);
+        let file = images::shared(&body, 1, 5);
+        let string = self.any_entries().concat();
+        let number = (segments - 1) as u8;
+        let address = (segments as u32 - 1).to_le_bytes();
+        let last = [&[number], &address[..], &body[body.len() - 1..]].concat();
+        self.last_with_parameters(&one_byte(&file, 1, &string), segments, &last);
+        self.last_without(&one_byte(&file, 0, &string), segments, &last);
+    }
+
+    /// `segment` is the last one's frame behind its code.
+    fn last_with_parameters(&mut self, end: &Load, segments: u64, segment: &[u8]) {
+        let (last, number) = (segments - 1, segments as u8);
+        let Hex(string) = end.parameters;
+        let segment = [&[2], segment].concat();
+        let parameters = frames::parameters(number, string, 5);
+        let [in_turn, over] = [number, number.wrapping_add(1)].map(|number| [10, number, 0]);
+        let (timer, in_turn) = (Event::Timer, Event::Frame(Hex(&in_turn)));
+        let over = Event::Frame(Hex(&over));
+        #[rustfmt::skip]
+        let cases = [
+            (running(last, 0, 1), timer, running(last, 1, 2), Some(&segment[..])),
+            (running(last, 1, 1), timer, ended(3, last, 1, 1), None),
+            (running(last, 0, 1), in_turn, running(segments, 0, 2), Some(&parameters)),
+            (running(segments, 0, 1), timer, running(segments, 1, 2), Some(&parameters)),
+            (running(segments, 1, 1), timer, ended(4, segments, 1, 1), None),
+            (running(segments, 1, 1), over, ended(1, segments + 1, 0, 1), None),
+        ];
+        for (before, event, after, frame) in cases {
+            self.set_case(end, before, event, &[], (after, frame, &[]));
+        }
+    }
+
+    fn last_without(&mut self, end: &Load, segments: u64, segment: &[u8]) {
+        let last = segments - 1;
+        let segment = [&[0], segment, &[5, 0, 0, 0]].concat();
+        let answer = [10, segments as u8, 0];
+        let (timer, answer) = (Event::Timer, Event::Frame(Hex(&answer)));
+        #[rustfmt::skip]
+        let cases = [
+            (running(last, 0, 1), timer, running(last, 1, 2), Some(&segment[..])),
+            (running(last, 1, 1), timer, ended(4, last, 1, 1), None),
+            (running(last, 1, 1), answer, ended(1, segments, 0, 1), None),
+        ];
+        for (before, event, after, frame) in cases {
+            self.set_case(end, before, event, &[], (after, frame, &[]));
+        }
+    }
+
+    /// Records about the end of a load, good and bad: a string that is dropped
+    /// or comes up in the middle is among them.
+    fn end_of_load(&mut self, segments: u64, mark: u8) {
+        let file = images::shared(&self.random.bytes(segments as usize), 1, 5);
+        let string = self.any_entries().concat();
+        let end = one_byte(&file, mark, &string);
+        let frames = end.frames(segments);
+        let most = frames * 2;
+        for position in segments - 1..=segments + 2 {
+            for verdict in 0..=4 {
+                for sent in [0, most - 1, most, most + 1] {
+                    for repeats in [0, 1] {
+                        let at_end = position == frames;
+                        let bad = position > frames || sent > most || (verdict == 1) != at_end;
+                        let record = ended(verdict, position, repeats, sent);
+                        self.about_the_end(&end, record, if bad { 10 } else { 0 });
+                    }
+                }
+            }
+        }
+    }
+
+    fn about_the_end(&mut self, end: &Load, record: mop_proved::Load, wanted: u8) {
+        let number = (record.position + 1) as u8;
+        let frames = [
+            [10, number, 0],
+            [10, number, 7],
+            [10, number.wrapping_sub(1), 0],
+            [10, number.wrapping_add(1), 0],
+        ];
+        let events = frames.iter().map(|frame| Event::Frame(Hex(frame)));
+        for event in events.chain([Event::Timer]) {
+            let case = Case {
+                kind: "records about the end",
+                end,
+                record,
+                event,
+                room: ROOM,
+                wanted,
+            };
+            self.step(case, &mut []);
+        }
+    }
+
+    /// The string is judged in every call, before the frame; with the mark 0
+    /// in none.
+    fn string_in_every_call(&mut self, string: &[u8], refusal: u8) {
+        const KIND: &str = "strings in every call";
+        let file = example();
+        let given = example_with(&file, 1, string);
+        let absent = example_with(&file, 0, string);
+        for record in [
+            numbers(Session::Waiting),
+            running(0, 0, 1),
+            running(1, 1, 3),
+            running(2, 0, 4),
+            ended(1, 3, 0, 4),
+            ended(2, 1, 0, 2),
+            ended(3, 0, 1, 2),
+            ended(4, 2, 1, 4),
+        ] {
+            self.every_event(KIND, &given, record, ROOM, refusal);
+            let too_far = record.position >= 2;
+            self.every_event(KIND, &absent, record, ROOM, if too_far { 10 } else { 0 });
+        }
+        self.every_event(KIND, &absent, ended(1, 2, 0, 3), ROOM, 0);
+    }
+
+    /// A timer and all frames; `earlier` is the refusal that comes before
+    /// theirs, 0 for none.
+    fn every_event(
+        &mut self,
+        kind: &'static str,
+        end: &Load,
+        record: mop_proved::Load,
+        room: usize,
+        earlier: u8,
+    ) {
+        let frames = FRAMES.map(|(frame, refusal)| (Event::Frame(Hex(frame)), refusal));
+        for (event, refusal) in frames.into_iter().chain([(Event::Timer, 0)]) {
+            let case = Case {
+                kind,
+                end,
+                record,
+                event,
+                room,
+                wanted: first(&[earlier, refusal]),
+            };
+            self.step(case, &mut []);
+        }
+    }
+
+    /// The writer refuses of a string what a load's step does.
+    fn string_tried(&mut self, string: &[u8], refusal: u8) {
+        let frame = Frame::Parameters {
+            number: self.random.u8(),
+            entries: string,
+            transfer: self.random.u32(),
+        };
+        self.write("strings of loads", &frame, ROOM, Wanted::Refusal(refusal));
+    }
+
+    /// A fault in each stage in which a step is judged, or none: every
+    /// combination.
+    fn order_of_refusals(&mut self, strings: &[Judged]) {
+        let of = |refusal| strings.iter().filter(move |string| string.1 == refusal);
+        let picked = [of(0).next(), of(4).next(), of(4).last(), of(2).next()];
+        for (string, refusal) in picked.into_iter().flatten() {
+            for (file, image) in &images() {
+                let absent = example_with(file, 0, string);
+                self.records_and_events(&absent, [*image, 0]);
+                let given = example_with(file, 1, string);
+                self.records_and_events(&given, [*image, *refusal]);
+            }
+        }
+    }
+
+    /// Records and settings with a fault or without, at an image and a string
+    /// with these refusals.
+    fn records_and_events(&mut self, end: &Load, [image, string]: [u8; 2]) {
+        const KIND: &str = "several faults at once";
+        let frames = end.frames(2);
+        let records = [
+            (running(0, 0, 1), 0),
+            (running(frames, 0, 1), 10),
+            (running(frames + 1, 0, 1), 10),
+            (running(0, 0, 2 * frames + 1), 10),
+            (ended(1, frames - 1, 0, 1), 10),
+        ];
+        for (early, refusal) in EARLY {
+            for (mut record, late) in records {
+                let mut end = *end;
+                early(&mut end.settings, &mut record);
+                for room in [ROOM, ROOM - 1] {
+                    let earlier = [refusal, room_refusal(room), image, late, string];
+                    self.every_event(KIND, &end, record, room, first(&earlier));
+                }
+            }
+        }
+    }
+}
