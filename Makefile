@@ -237,7 +237,7 @@ fuzz: $(SANITIZED)/fuzz
 
 # The simulator whose boot ROM the driver is tested with; without it that test is skipped.
 simh:
-	@command -v pdp11 >/dev/null || DEBIAN_FRONTEND=noninteractive timeout 120 apt-get install -y simh </dev/null >/dev/null 2>&1 || echo "make: the package simh cannot be had"
+	@command -v pdp11 >/dev/null || DEBIAN_FRONTEND=noninteractive timeout 120 sh -c 'apt-get install -y simh || { apt-get update && apt-get install -y simh; }' </dev/null >/dev/null 2>&1 || echo "make: the package simh cannot be had"
 
 # The speed of a load over a line in memory.
 line-bench: driver

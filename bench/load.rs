@@ -10,16 +10,14 @@ use mop_proved::{Load, LoadSettings, mop_load_frame};
 
 use crate::{SEGMENT_SIZE, compare, proved};
 
-const PROVED: LoadSettings = LoadSettings {
-    segment_size: SEGMENT_SIZE,
-    repeats: 3,
-    with_parameters: 0,
-};
-const PLAIN: Settings = Settings {
-    segment_size: SEGMENT_SIZE,
-    repeats: 3,
-    parameters: None,
-};
+const REPEATS: u32 = 3;
+
+/// What is loaded: an image, and perhaps a parameter string behind it.
+#[derive(Clone, Copy)]
+struct Job<'a> {
+    file: &'a [u8],
+    string: Option<&'a [u8]>,
+}
 
 /// The host's record with a segment on its way, and the frame that answers it.
 struct Answered {
@@ -48,43 +46,64 @@ impl Answered {
     }
 
     /// Both give the length of the frame that is now in `reply`.
-    fn proved(&self, file: &[u8], reply: &mut [u8]) -> usize {
-        let (image, from, to) = (file.as_ptr(), self.frame.as_ptr(), reply.as_mut_ptr());
-        let (size, length, room) = (file.len(), self.frame.len(), reply.len());
-        let (record, none) = (self.proved, std::ptr::null());
+    fn proved(&self, job: Job, reply: &mut [u8]) -> usize {
+        let settings = LoadSettings {
+            segment_size: SEGMENT_SIZE,
+            repeats: REPEATS,
+            with_parameters: job.string.is_some().into(),
+        };
+        let string = job.string.unwrap_or_default();
         // The pointers are good for these lengths, and reply overlaps nothing.
-        let step =
-            unsafe { mop_load_frame(PROVED, record, image, size, none, 0, from, length, to, room) };
+        let step = unsafe {
+            mop_load_frame(
+                settings,
+                self.proved,
+                job.file.as_ptr(),
+                job.file.len(),
+                string.as_ptr(),
+                string.len(),
+                self.frame.as_ptr(),
+                self.frame.len(),
+                reply.as_mut_ptr(),
+                reply.len(),
+            )
+        };
         black_box(step).answer.length
     }
 
-    fn plain(&self, file: &[u8], reply: &mut [u8]) -> usize {
+    fn plain(&self, job: Job, reply: &mut [u8]) -> usize {
+        let settings = Settings {
+            segment_size: SEGMENT_SIZE,
+            repeats: REPEATS,
+            parameters: job.string,
+        };
         let mut session = self.plain;
-        let sent = load::frame(PLAIN, &mut session, file, &self.frame, reply);
+        let sent = load::frame(settings, &mut session, job.file, &self.frame, reply);
         black_box(session);
         sent.expect("a good frame").unwrap_or(0)
     }
 }
 
 /// Every segment but the first in turn.
-pub fn step(name: &str, file: &[u8]) {
-    let count = proved::image_check(file, SEGMENT_SIZE).segments;
+pub fn step(name: &str, file: &[u8], string: Option<&[u8]>) {
+    let job = Job { file, string };
+    let count = proved::image_check(job.file, SEGMENT_SIZE).segments;
     let inputs: Vec<Answered> = (0..count - 1).map(Answered::new).collect();
     let (mut reply, mut other) = ([0; 1500], [0; 1500]);
     for input in &inputs {
-        let length = input.proved(file, &mut reply);
+        let length = input.proved(job, &mut reply);
         assert!(length > 0, "a frame goes out");
-        assert_eq!(length, input.plain(file, &mut other));
+        assert_eq!(length, input.plain(job, &mut other));
         assert_eq!(reply[..length], other[..length], "the same frame");
     }
     compare(
         name,
         &inputs,
         |input| {
-            black_box(input.proved(black_box(file), black_box(&mut reply)));
+            black_box(input.proved(black_box(job), black_box(&mut reply)));
         },
         |input| {
-            black_box(input.plain(black_box(file), black_box(&mut other)));
+            black_box(input.plain(black_box(job), black_box(&mut other)));
         },
     );
 }

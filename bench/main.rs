@@ -69,7 +69,14 @@ fn main() {
         let file = image(regions, 60_000);
         check(&format!("image check, {name}"), &file);
         segment(&format!("image segment, {name}"), &file);
-        load::step(&format!("load step, {name}"), &file);
+        load::step(&format!("load step, {name}"), &file, None);
+    }
+    let file = image(1, 60_000);
+    for (name, string) in [
+        ("load step, names", names()),
+        ("load step, 1,476 bytes of names", filling(&name(1, 16))),
+    ] {
+        load::step(name, &file, Some(&string));
     }
     print("dump of 16 MiB, a frame", &dump::rounds());
 }

@@ -30,13 +30,6 @@ kept entries =
       «host_time» = value (latest 5 [] 0 entries);
     }
 
--- a fresh machine keeps nothing
+-- a fresh machine keeps what no entries say: nothing
 abbrev pub none : Parameters
-none =
-    record {
-      «target_name» = value [];
-      «target_address» = value [];
-      «host_name» = value [];
-      «host_address» = value [];
-      «host_time» = value [];
-    }
+none = kept []

@@ -72,16 +72,6 @@ fn last(entries: &[u8], kind: u8) -> Value
     }
 }
 
-// No value.
-fn no_value() -> Value
-    ensures { λ r. ⌜ r ≡ value [] ⌝ }
-{
-    Value {
-        length: 0,
-        bytes: [0u8; 16],
-    }
-}
-
 // What is kept of entries without their end mark; of bytes that are none, what stands where theirs would.
 pub fn keep(entries: &[u8]) -> Parameters
     ensures { λ r. ⌜ r ≡ kept (now (entries .entry)) ⌝ }
@@ -95,15 +85,10 @@ pub fn keep(entries: &[u8]) -> Parameters
     }
 }
 
-// A fresh machine keeps nothing.
+// What a fresh machine keeps.
 pub fn none() -> Parameters
     ensures { λ r. ⌜ r ≡ none ⌝ }
 {
-    Parameters {
-        target_name: no_value(),
-        target_address: no_value(),
-        host_name: no_value(),
-        host_address: no_value(),
-        host_time: no_value(),
-    }
+    let entries = [0u8; 0];
+    keep(&entries)
 }
