@@ -28,7 +28,7 @@ module _ (s : Settings) (file string old : List ℕ) (ok : cutRefusal file (s .�
   over-segments (suc k) = rw (over-segments k)
 
   -- n frames hold all segments
-  all-segments : segments s file string old (frames s file) ≡ many (s .«segment_size») (regions file)
+  all-segments : segments s file (frames s file) ≡ many (s .«segment_size») (regions file)
   all-segments = omega (arith, frames-few s (many (s .«segment_size») (regions file)) .0)
 
   module _ (e : End) (i : FirstIn s file string old (frames s file) e) where

@@ -101,7 +101,7 @@ module _ (s : LoadSettings) (ms : MachineSettings) (file string old : List ℕ) 
   )
 
   -- the frames laid over are the segments among them
-  over-segments : (k : ℕ) → k ≤ n → meaning.laidOver fr old k ≡ laidOver file (s .«segment_size») old (segments s file string old k)
+  over-segments : (k : ℕ) → k ≤ n → meaning.laidOver fr old k ≡ laidOver file (s .«segment_size») old (segments s file k)
   unfolding laidOver meaning.laidOver
   over-segments zero l = let z : min 0 N ≡ 0 = omega arith in rw z
   over-segments (suc k) l = go (isParameters s file k) refl (over-segments k (omega arith))

@@ -15,7 +15,7 @@ latest kind before (suc skip) (b ∷ bs) = latest kind before skip bs
 latest kind before zero (type ∷ []) = before
 latest kind before zero (type ∷ n ∷ bs) = latest kind (pick (eqb type kind) (take n bs) before) n bs
 
--- kept: a value's length and its bytes, zeros behind them up to 16
+-- a value as it is kept: its length and its bytes, zeros behind them up to 16
 abbrev pub value : List ℕ → Value
 value v = record { length = min 16 (length v); bytes = take 16 v ++ replicate (16 - length v) 0 }
 

@@ -4,7 +4,6 @@ ghost use mathlib.Core.Bool.{cond};
 ghost use mathlib.Core.List.{[]};
 ghost use Prim.Native.Nat.{_+_, _≤_};
 ghost use lib.ListN.{length, take, drop};
-ghost use lib.Dec.{eqb};
 ghost use Rattle.parameters.specs.Parameters.{latest, value, kept, none};
 
 // A name, an address or a time: as many bytes as the length says, then zeros.
