@@ -5,7 +5,7 @@ use std::hint::black_box;
 use std::time::{Duration, Instant};
 
 use mop_plain::{dump, machine};
-use mop_proved::{Dump, DumpSettings, Machine, MachineSettings};
+use mop_proved::{Dump, DumpSettings, Machine, MachineSettings, Window};
 use mop_proved::{mop_dump_frame, mop_dump_start, mop_machine_frame, mop_machine_start_dump};
 
 const LENGTH: usize = 16 << 20;
@@ -32,6 +32,10 @@ const MACHINE: MachineSettings = MachineSettings {
     reply_bytes: MOST,
     device: 0,
     processor: 0,
+    window: Window {
+        start: 0,
+        length: 0,
+    },
 };
 const HOST: DumpSettings = DumpSettings {
     length: LENGTH as u64,
@@ -89,6 +93,7 @@ const PLAIN_MACHINE: machine::Settings = machine::Settings {
     dump_most: MOST,
     device: 0,
     processor: 0,
+    window: machine::Window::NONE,
 };
 const PLAIN_HOST: dump::Settings = dump::Settings {
     length: LENGTH as u64,

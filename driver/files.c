@@ -157,7 +157,8 @@ static bool is_input(const output *o, const struct stat *there)
 {
     struct stat input;
     for (size_t i = 0; i < o->inputs_count; i++)
-        if (stat(o->inputs[i], &input) == 0 && input.st_dev == there->st_dev && input.st_ino == there->st_ino)
+        if (o->inputs[i] != NULL && stat(o->inputs[i], &input) == 0 && input.st_dev == there->st_dev &&
+            input.st_ino == there->st_ino)
             return true;
     return false;
 }

@@ -40,7 +40,7 @@ void aside_remove(aside *a);
 typedef struct output {
     const char *path;
     bool force;
-    const char *const *inputs; /* the names of the files that were read */
+    const char *const *inputs; /* the names of the files that were read, NULL for none */
     size_t inputs_count;
 } output;
 

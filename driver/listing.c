@@ -31,9 +31,24 @@ static void print_entry(FILE *out, uint64_t i, entry e)
         i + 1, e.length, e.address, e.address, e.offset);
 }
 
+static const uint8_t *directory_of(const contents *file, mop_image image)
+{
+    return file->bytes + file->length - IMAGE_TRAILER - (size_t)IMAGE_ENTRY * image.regions;
+}
+
+/* Regions stand in the order of their addresses. */
+unsigned image_region(const contents *file, mop_image image, uint32_t address)
+{
+    const uint8_t *at = directory_of(file, image);
+    unsigned region = 0;
+    for (; region < image.regions && entry_at(at).address <= address; at += IMAGE_ENTRY)
+        region++;
+    return region;
+}
+
 void image_list(FILE *out, const contents *file, mop_image image)
 {
-    const uint8_t *at = file->bytes + file->length - IMAGE_TRAILER - (size_t)IMAGE_ENTRY * image.regions;
+    const uint8_t *at = directory_of(file, image);
     uint64_t total = 0;
     for (uint64_t i = 0; i < image.regions; i++, at += IMAGE_ENTRY) {
         entry e = entry_at(at);

@@ -10,6 +10,9 @@
 /* The regions and the transfer address of an image that the library takes. */
 void image_list(FILE *out, const contents *file, mop_image image);
 
+/* The region of such an image that has this address, counted from 1 as in the list. */
+unsigned image_region(const contents *file, mop_image image, uint32_t address);
+
 /* What the trailer says, and for a wrong entry those up to it. */
 void image_explain(FILE *out, const contents *file, uint8_t refusal);
 

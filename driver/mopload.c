@@ -6,6 +6,7 @@
 
 #include "files.h"
 #include "host.h"
+#include "listing.h"
 #include "parameters.h"
 #include "progress.h"
 #include "words.h"
@@ -176,7 +177,9 @@ static const char manual[] = "NAME\n"
                              "  assistance (code 3); the machine then asks this host. The first machine\n"
                              "  that does so is served, and then the program ends. mopimage makes images.\n"
                              "  The last lines tell what the machine's memory holds, and what it keeps of\n"
-                             "  the parameters.\n"
+                             "  the parameters. A machine rejects a segment that ends beyond its memory or\n"
+                             "  touches addresses that it keeps for itself, such as a boot ROM; then they\n"
+                             "  tell the segment's addresses, and its region as mopimage --list counts them.\n"
                              "\n"
                              "  One host loads a machine at a time. A second mopload or mopdump on the\n"
                              "  interface is refused. If any other program on this computer sends MOP\n"
@@ -265,6 +268,19 @@ static int check_room(const host *h, const loading *l)
         h->line.name, h->line.longest, h->line.longest - SEGMENT_REST);
 }
 
+/* The bytes that were rejected, and why a machine does so; of the parameters there is nothing more to tell. */
+static void tell_rejected(const loading *l)
+{
+    const uint64_t c = l->session.position;
+    mop_segment segment = mop_image_segment(l->file.bytes, l->file.length, l->settings.segment_size, c);
+    if (l->session.verdict != MOP_LOAD_REJECTED || segment.refusal != MOP_ACCEPTED)
+        return;
+    printf("Segment %" PRIu64 " is %zu byte%s from 0x%08" PRIX32 " to 0x%08zX, in region %u of the image. A machine "
+           "rejects what ends beyond its memory, or touches addresses that it keeps for itself, such as a boot ROM.\n",
+        c + 1, segment.length, segment.length == 1 ? "" : "s", segment.address, segment.address + segment.length - 1,
+        image_region(&l->file, l->image, segment.address));
+}
+
 /* What the machine's memory holds, and the status of it. */
 static int conclude(const loading *l, int status)
 {
@@ -273,6 +289,7 @@ static int conclude(const loading *l, int status)
         load_shared_words(stdout);
     else
         load_words(stdout, &l->session, &l->image, l->parameters.given);
+    tell_rejected(l);
     if (l->resets > 0)
         load_reset_words(stdout, l->resets, l->session.verdict == MOP_LOAD_UNCONFIRMED && !l->early);
     printf("%" PRIu64 " frames were sent by the session.\n", l->session.sent);

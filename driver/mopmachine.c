@@ -18,19 +18,24 @@ enum {
     OPTION_MEMORY = OPTION_OWN,
     OPTION_OFFER,
     OPTION_FILL,
+    OPTION_ROM,
+    OPTION_ROM_FILE,
     OPTION_SAVE,
     OPTION_FORCE,
     OPTION_DEVICE,
     OPTION_PROCESSOR
 };
 
+/* The files that are read before the start. */
+enum { FILL, ROM, FILES };
+
 typedef struct machine_end {
     common_settings common;
     mop_machine_settings settings;
     mop_machine machine;
     contents memory;
-    const char *fill;
-    output save; /* no path for none */
+    const char *files[FILES]; /* NULL for none */
+    output save;              /* no path for none */
     bool offer;
     bool given;                   /* it was started by parameters */
     uint8_t host[ADDRESS_LENGTH]; /* whom it asks, ASSISTANCE for all */
@@ -95,6 +100,33 @@ static int volunteer(machine_end *m, const line_frame *frame)
     return timer(m);
 }
 
+/* A load that does not fit. The library has two reasons, and of a load inside memory only one is left. */
+static void tell_away(const machine_end *m, const mop_fields *load)
+{
+    const mop_window *rom = &m->settings.window;
+    printf("A load of %zu byte%s at 0x%08" PRIX32 " was turned away: ", load->data_length,
+        load->data_length == 1 ? "" : "s", load->address);
+    if (load->address + load->data_length > m->memory.length)
+        printf("it would end beyond memory, which has %zu bytes.", m->memory.length);
+    else
+        printf("it would touch the ROM window, 0x%08" PRIX64 " to 0x%08" PRIX64 ".", rom->start,
+            rom->start + rom->length - 1);
+    puts(" Nothing of it was written.");
+    fflush(stdout);
+}
+
+/* What the library makes of a frame that it answers. A repeat is not looked at and leaves the record; number 0 is
+ * never one. */
+static void tell_answered(machine_end *m, const line_frame *frame, const mop_machine *next)
+{
+    mop_fields fields = mop_read(frame->bytes, frame->length);
+    bool repeat = fields.number != 0 && next->expected == m->machine.expected;
+    if (next->state == MOP_MACHINE_STARTED)
+        m->given = fields.code == MOP_CODE_PARAMETERS;
+    if (next->state == MOP_MACHINE_LOADING && next->error != 0 && !repeat)
+        tell_away(m, &fields);
+}
+
 static int take(machine_end *m, const line_frame *frame)
 {
     uint8_t reply[MOP_FRAME_MOST];
@@ -109,8 +141,8 @@ static int take(machine_end *m, const line_frame *frame)
     m->limit = clock_now() + (int64_t)m->common.wait * 1000;
     mop_machine_step step = mop_machine_frame(
         m->settings, m->machine, frame->bytes, frame->length, m->memory.bytes, m->memory.length, reply, sizeof reply);
-    if (step.answer.length > 0 && step.machine.state == MOP_MACHINE_STARTED)
-        m->given = mop_read(frame->bytes, frame->length).code == MOP_CODE_PARAMETERS;
+    if (step.answer.length > 0)
+        tell_answered(m, frame, &step.machine);
     return carry(m, step, reply);
 }
 
@@ -143,9 +175,20 @@ static int on_timer(void *end)
         state_words(m->machine.state));
 }
 
+static void tell_rom(const machine_end *m)
+{
+    const mop_window *rom = &m->settings.window;
+    if (rom->length == 0)
+        return;
+    printf("Memory is 0x00000000 to 0x%08zX, the ROM window 0x%08" PRIX64 " to 0x%08" PRIX64 ".\n",
+        m->memory.length - 1, rom->start, rom->start + rom->length - 1);
+    fflush(stdout);
+}
+
 static int run(machine_end *m)
 {
     static const line_end calls = {over, due, on_frame, on_timer};
+    tell_rom(m);
     m->limit = clock_now() + (int64_t)m->common.wait * 1000;
     int status = start(m);
     return status == 0 ? line_run(&m->line, &calls, m) : status;
@@ -158,8 +201,8 @@ static const char manual[] = "NAME\n"
                              "\n"
                              "SYNOPSIS\n"
                              "  mopmachine -i INTERFACE --memory N [--offer] [--fill FILE]\n"
-                             "             [--save FILE [--force]] [-D N] [--timer MS] [--wait S]\n"
-                             "             [--trace FILE]\n"
+                             "             [--rom START LENGTH [--rom-file FILE]] [--save FILE [--force]]\n"
+                             "             [-D N] [--timer MS] [--wait S] [--trace FILE]\n"
                              "\n"
                              "DESCRIPTION\n"
                              "  The machine end as a process, to rehearse a shift without the machine. It\n"
@@ -167,7 +210,8 @@ static const char manual[] = "NAME\n"
                              "  host that answers, and ends when it is started (or the dump is complete).\n"
                              "  If the load ended with parameters it prints those that it was given: names\n"
                              "  in quotes, with \\xNN for what is not printable ASCII, addresses as\n"
-                             "  hexadecimal pairs, and the time in the form that mopload takes.\n"
+                             "  hexadecimal pairs, and the time in the form that mopload takes. A load that\n"
+                             "  ends beyond memory or touches the ROM is turned away whole, and it says so.\n"
                              "\n"
                              "OPTIONS\n"
                              "  --memory N\n"
@@ -176,10 +220,18 @@ static const char manual[] = "NAME\n"
                              "        Offer a dump and not ask for a program.\n"
                              "  --fill FILE\n"
                              "        What the memory holds at first, from address 0 on; the rest is 0.\n"
+                             "  --rom START LENGTH\n"
+                             "        A ROM window: LENGTH bytes from address START on, at least 1, that no\n"
+                             "        load may touch. It ends at address 0xFFFFFFFF or before, and may lie\n"
+                             "        beyond memory or across its end. A dump reads it like the rest.\n"
+                             "  --rom-file FILE\n"
+                             "        What the ROM holds, from START on. If FILE is shorter than the window\n"
+                             "        the rest of it is as --fill has it, or 0. A FILE that is longer, or\n"
+                             "        that ends beyond memory, is refused.\n"
                              "  --save FILE\n"
-                             "        Write the memory to FILE at the end, however it ends. A file that is\n"
-                             "        there is replaced only with --force; a device, a directory and the\n"
-                             "        FILE of --fill never are.\n"
+                             "        Write the memory to FILE at the end, the ROM too, however it ends. A\n"
+                             "        file that is there is replaced only with --force; a device, a\n"
+                             "        directory and the files of --fill and --rom-file never are.\n"
                              "  --force\n"
                              "        Replace the file of --save.\n"
                              "  -D N, --dump-most N\n"
@@ -204,8 +256,22 @@ static int small_byte(const char *name, const char *value, uint8_t *byte)
     return status;
 }
 
-static int option(int c, const char *value, machine_end *m)
+static int rom_option(const char *start, const char *length, mop_window *rom)
 {
+    const uint64_t most = (uint64_t)UINT32_MAX + 1;
+    if (length == NULL)
+        return complain(STATUS_USAGE, "--rom: give a start and a length");
+    int status = option_number("--rom", start, 0, UINT32_MAX, &rom->start);
+    if (status == 0)
+        status = option_number("--rom", length, 1, most, &rom->length);
+    if (status == 0 && rom->start + rom->length > most)
+        status = complain(STATUS_USAGE, "--rom: the window ends above address 0xFFFFFFFF");
+    return status;
+}
+
+static int option(int c, char **words, machine_end *m)
+{
+    const char *value = optarg;
     uint64_t bytes = 0;
     int status = 0;
     switch (c) {
@@ -217,7 +283,12 @@ static int option(int c, const char *value, machine_end *m)
         m->offer = true;
         return 0;
     case OPTION_FILL:
-        m->fill = value;
+        m->files[FILL] = value;
+        return 0;
+    case OPTION_ROM:
+        return rom_option(value, words[optind] == NULL ? NULL : words[optind++], &m->settings.window);
+    case OPTION_ROM_FILE:
+        m->files[ROM] = value;
         return 0;
     case OPTION_SAVE:
         m->save.path = value;
@@ -240,11 +311,12 @@ static int options(int count, char **words, machine_end *m)
 {
     static const struct option known[] = {LINE_OPTIONS, {"memory", required_argument, NULL, OPTION_MEMORY},
         {"offer", no_argument, NULL, OPTION_OFFER}, {"fill", required_argument, NULL, OPTION_FILL},
+        {"rom", required_argument, NULL, OPTION_ROM}, {"rom-file", required_argument, NULL, OPTION_ROM_FILE},
         {"save", required_argument, NULL, OPTION_SAVE}, {"force", no_argument, NULL, OPTION_FORCE},
         {"dump-most", required_argument, NULL, 'D'}, {"device", required_argument, NULL, OPTION_DEVICE},
         {"processor", required_argument, NULL, OPTION_PROCESSOR}, {NULL, 0, NULL, 0}};
-    for (int c = 0; (c = getopt_long(count, words, "i:D:h", known, NULL)) != -1;) {
-        int status = option(c, optarg, m);
+    for (int c = 0; (c = getopt_long(count, words, "+i:D:h", known, NULL)) != -1;) {
+        int status = option(c, words, m);
         if (status != 0)
             return status;
     }
@@ -252,22 +324,37 @@ static int options(int count, char **words, machine_end *m)
         return complain(STATUS_USAGE, "'%s' is too much (see --help)", words[optind]);
     if (m->memory.length == 0)
         return complain(STATUS_USAGE, "give --memory N (see --help)");
+    if (m->files[ROM] != NULL && m->settings.window.length == 0)
+        return complain(STATUS_USAGE, "--rom-file: give --rom START LENGTH too");
     return 0;
+}
+
+/* Lays a file, if there is one, into memory from an address on, into a place of so many bytes. */
+static int lay(machine_end *m, const char *path, uint64_t at, uint64_t length, const char *place)
+{
+    contents file = {NULL, 0};
+    int status = path == NULL ? 0 : file_read(path, MOP_MEMORY_MOST, &file);
+    if (file.bytes == NULL)
+        return status;
+    if (file.length > length)
+        status = complain(STATUS_FILE, "%s has %zu bytes, and %s has %" PRIu64, path, file.length, place, length);
+    else if (at + file.length > m->memory.length)
+        status = complain(STATUS_FILE, "%s ends beyond memory: %zu bytes from 0x%08" PRIX64 " on, and memory has %zu",
+            path, file.length, at, m->memory.length);
+    else
+        memcpy(m->memory.bytes + at, file.bytes, file.length);
+    free(file.bytes);
+    return status;
 }
 
 static int fill(machine_end *m)
 {
-    contents first = {NULL, 0};
+    const mop_window *rom = &m->settings.window;
     m->memory.bytes = m->memory.length == 0 ? NULL : calloc(m->memory.length, 1);
     if (m->memory.bytes == NULL)
         return complain(STATUS_OTHER, "no room for the memory");
-    if (m->fill == NULL)
-        return 0;
-    int status = file_read(m->fill, m->memory.length, &first);
-    if (status == 0)
-        memcpy(m->memory.bytes, first.bytes, first.length);
-    free(first.bytes);
-    return status;
+    int status = lay(m, m->files[FILL], 0, m->memory.length, "memory");
+    return status == 0 ? lay(m, m->files[ROM], rom->start, rom->length, "the ROM window") : status;
 }
 
 static void tell_state(const machine_end *m)
@@ -297,8 +384,8 @@ static int on_the_line(machine_end *m)
         return status;
     if (m->settings.reply_bytes + DUMP_REST > m->line.longest)
         m->settings.reply_bytes = m->line.longest - DUMP_REST;
-    m->save.inputs = &m->fill;
-    m->save.inputs_count = m->fill != NULL;
+    m->save.inputs = m->files;
+    m->save.inputs_count = FILES;
     status = m->save.path == NULL ? 0 : output_check(&m->save);
     if (status == 0)
         status = fill(m);

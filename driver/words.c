@@ -211,13 +211,16 @@ static void load_finished_words(FILE *out, const mop_image *image, bool paramete
 /* At position n it was the parameters that it answered. */
 static void load_rejected_words(FILE *out, uint64_t c, uint64_t n)
 {
-    if (c < n)
-        fprintf(out,
-            "Rejected: the machine answered segment %" PRIu64 " of %" PRIu64 " with an error. Its memory holds the "
-            "%" PRIu64 " segments before, and it was not started. (A boot ROM that calls a repeated segment an error "
-            "has taken that segment too: docs/FIELD-NOTES.md.)\n",
-            c + 1, n, c);
-    else
+    if (c < n) {
+        fprintf(out, "Rejected: the machine answered segment %" PRIu64 " of %" PRIu64 " with an error. ", c + 1, n);
+        if (c == 0)
+            fputs("Its memory is as it was", out);
+        else
+            fprintf(out, "Its memory holds the %" PRIu64 " segment%s before", c, c == 1 ? "" : "s");
+        fputs(", and it was not started. (A boot ROM that calls a repeated segment an error has taken that segment "
+              "too: docs/FIELD-NOTES.md.)\n",
+            out);
+    } else
         fprintf(out,
             "Rejected: the machine answered the parameters with an error. Its memory holds the whole image, all "
             "%" PRIu64 " segments, and it was not started.\n",

@@ -507,11 +507,20 @@ mop_segment mop_image_segment(const uint8_t *file, size_t file_length,
 
 /* ---- The machine end ------------------------------------------------- */
 
+/* A ROM window: addresses that no load may touch. With length 0 there is none,
+ * whatever start is; otherwise start + length is at most 4,294,967,296. It may
+ * lie beyond memory or across its end. */
+typedef struct mop_window {
+    uint64_t start;  /* W, its first address */
+    uint64_t length; /* V, how many bytes it has; 0 for no window */
+} mop_window;
+
 /* The machine's settings. */
 typedef struct mop_machine_settings {
     uint32_t reply_bytes; /* D, the most bytes of a dump reply, 1 to 1,495 */
     uint8_t device;       /* device type in its own frames */
     uint8_t processor;    /* processor type in its own frames */
+    mop_window window;    /* its ROM window */
 } mop_machine_settings;
 
 /* A name, an address or a time that the machine keeps: as many bytes as length
@@ -557,10 +566,10 @@ typedef struct mop_machine_step {
  *          of at least 1,500 bytes.
  *   Out    the next record, and the length of the frame to send, 0 for none;
  *          that frame at the start of reply, the bytes behind it as they were.
- *   Refuses, in this order: 10 for reply_bytes, a memory that is too long or a
- *          state above 4; 9 for the reply buffer; on a frame, 1 to 4 as
- *          mop_read does. Then the record is answered as it came, and memory
- *          and reply stay as they were.
+ *   Refuses, in this order: 10 for reply_bytes, a memory that is too long, a
+ *          window that ends above 4,294,967,296 or a state above 4; 9 for the
+ *          reply buffer; on a frame, 1 to 4 as mop_read does. Then the record
+ *          is answered as it came, and memory and reply stay as they were.
  */
 
 /* Starts a load: the record is Requesting, the frame a code 8 for an operating
@@ -581,15 +590,18 @@ mop_machine_step mop_machine_start_dump(mop_machine_settings settings,
  *   Codes 0 and 2, a load, and 20, parameters, in Idle, Requesting and Loading:
  *   taken with number 0, always and anew, and in Loading with the expected
  *   number. A load fits if its address + its data's length is at most the
- *   memory's length. If it fits, the data goes into memory, and code 10 answers
- *   with the number after it (after 255 comes 0) and error 0; if not, memory
- *   stays, and the error is 1. Then the state is Loading or, after a code 0 that
+ *   memory's length, and no byte of its data would go into the ROM window; a
+ *   load without data touches no window. If it fits, the data goes into memory,
+ *   and code 10 answers with the number after it (after 255 comes 0) and error
+ *   0; if not, all of memory stays, and the error is 1. So no frame ever changes
+ *   a byte of the window. Then the state is Loading or, after a code 0 that
  *   fits, Started. A code 20 that is taken is answered with error 0: memory
  *   stays, the record keeps the entries' values, and the state is Started. To
  *   the number before the expected one, unless that is 0, Loading gives its last
  *   reply again, its error included.
  *   Code 4, in Idle and Offering: answered with code 14, the address asked for
- *   and the lesser of count and D bytes from there on, 0 beyond memory's end.
+ *   and the lesser of count and D bytes from there on, 0 beyond memory's end;
+ *   the window is read like the rest.
  *   Code 1, in Offering: the state becomes Idle.
  *   Code 24, in Idle: answered with the same receipt and data as code 26.
  *   All else is ignored. */

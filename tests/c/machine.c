@@ -4,30 +4,27 @@
 
 #include "check.h"
 #include "lent.h"
+#include "machine.h"
 #include "make.h"
 #include "tests.h"
 
 static lent frame, memory, reply;
 
-/* A call: what goes in, but for the buffers. */
-typedef struct input {
-    enum call call;
-    mop_machine_settings settings;
-    mop_machine machine;
-    uint8_t frame[BEYOND];
-    size_t frame_length;
-    const uint8_t *memory;
-    size_t memory_length;
-    size_t room;
-} input;
+/* Whether there is no window, or it ends at the last address or before. */
+static bool good_window(mop_window w)
+{
+    const uint64_t end = UINT64_C(1) << 32;
+    return w.length == 0 || (w.start <= end && w.length <= end - w.start);
+}
 
-/* The header's refusal, in its order. */
-static unsigned wanted(const input *in)
+unsigned machine_refusal(const machine_input *in)
 {
     const uint32_t d = in->settings.reply_bytes;
     if (d < 1 || d > MOP_DUMP_DATA_MOST)
         return MOP_REFUSED_RANGE;
     if (in->memory_length > MOP_MEMORY_MOST)
+        return MOP_REFUSED_RANGE;
+    if (!good_window(in->settings.window))
         return MOP_REFUSED_RANGE;
     if (in->machine.state > MOP_MACHINE_STARTED)
         return MOP_REFUSED_RANGE;
@@ -38,7 +35,7 @@ static unsigned wanted(const input *in)
                : MOP_ACCEPTED;
 }
 
-static mop_machine_step make_call(const input *in)
+static mop_machine_step make_call(const machine_input *in)
 {
     const size_t size = in->memory_length, room = in->room;
     uint8_t *to = lent_out(&reply);
@@ -111,40 +108,114 @@ static bool replies(mop_written answer, bool any, uint8_t number, uint8_t error)
            memcmp(lent_bytes(&reply), wanted_bytes, sizeof wanted_bytes) == 0;
 }
 
-/* A code 20 that is taken starts the machine and is kept, whatever stood there.
- * One that is a repeat gets the last reply again; all others are ignored. */
-static void check_parameters_frame(
-    const input *in, mop_fields f, mop_machine_step step)
+/* A load or parameters: what is taken makes this record and gets this error.
+ * A repeat gets the last reply again; all others are ignored. */
+static void check_numbered(const machine_input *in, mop_fields f,
+    mop_machine_step step, mop_machine next, uint8_t error)
 {
     const mop_machine *m = &in->machine;
     const bool taken = takes(*m, f.number);
     const bool repeat = m->state == MOP_MACHINE_LOADING && f.number != 0 &&
                         (uint8_t)(f.number + 1) == m->expected;
+    demand(same(step.machine, taken ? next : *m), "another record");
+    demand(replies(step.answer, taken || repeat, (uint8_t)(f.number + 1),
+               taken ? error : m->error),
+        "another reply");
+}
+
+/* A code 20 that is taken starts the machine and is kept, whatever stood
+ * there. */
+static void check_parameters_frame(
+    const machine_input *in, mop_fields f, mop_machine_step step)
+{
     const mop_machine started = {.transfer = f.transfer,
         .state = MOP_MACHINE_STARTED,
         .parameters = said(in->frame + f.data_at, f.data_length)};
     demand(lent_same_from(&memory, 0), "parameters changed memory");
-    demand(same(step.machine, taken ? started : *m),
-        "not what the parameters say");
-    demand(replies(step.answer, taken || repeat, (uint8_t)(f.number + 1),
-               taken ? 0 : m->error),
-        "another reply to parameters");
+    check_numbered(in, f, step, started, 0);
 }
 
-/* No other frame and no timer changes what it keeps. */
-static void check_kept(const input *in, mop_machine_step step)
+/* Whether the load fits: address by address, none is in the window. */
+static bool fits(const machine_input *in, mop_fields f)
+{
+    const mop_window w = in->settings.window;
+    const uint64_t end = (uint64_t)f.address + f.data_length;
+    for (uint64_t address = f.address; address < end; address++)
+        if (address >= w.start && address - w.start < w.length)
+            return false;
+    return end <= in->memory_length;
+}
+
+/* Whether memory is the old one with the frame's data laid over it. */
+static bool laid(const machine_input *in, mop_fields f)
+{
+    const uint8_t *now = lent_bytes(&memory), *data = in->frame + f.data_at;
+    return memcmp(now, in->memory, f.address) == 0 &&
+           memcmp(now + f.address, data, f.data_length) == 0 &&
+           lent_same_from(&memory, f.address + f.data_length);
+}
+
+/* A load that is taken and fits is in memory; of any other nothing is. */
+static void check_load_frame(
+    const machine_input *in, mop_fields f, mop_machine_step step)
+{
+    const bool good = fits(in, f);
+    const bool starts = good && f.code == MOP_CODE_LOAD_TRANSFER;
+    mop_machine next = {.parameters = in->machine.parameters};
+    next.state = starts ? MOP_MACHINE_STARTED : MOP_MACHINE_LOADING;
+    next.transfer = starts ? f.transfer : 0;
+    next.expected = (uint8_t)(starts ? 0 : f.number + 1);
+    next.error = !good;
+    if (good && takes(in->machine, f.number))
+        demand(laid(in, f), "memory is not the old one with the load in it");
+    else
+        demand(
+            lent_same_from(&memory, 0), "memory changed, and no load is in it");
+    check_numbered(in, f, step, next, !good);
+}
+
+/* A code 4 is answered with memory, the window like the rest, and zeros. */
+static void check_read_frame(
+    const machine_input *in, mop_fields f, mop_machine_step step)
+{
+    const bool answers = in->machine.state == MOP_MACHINE_IDLE ||
+                         in->machine.state == MOP_MACHINE_OFFERING;
+    const size_t d = in->settings.reply_bytes;
+    const size_t length = f.count < d ? f.count : d;
+    const uint8_t *bytes = lent_bytes(&reply);
+    demand(same(step.machine, in->machine) && lent_same_from(&memory, 0),
+        "a dump changed the machine");
+    demand(step.answer.length == (answers ? 5 + length : 0), "another length");
+    if (!answers)
+        return;
+    demand(bytes[0] == MOP_CODE_DUMP_DATA &&
+               memcmp(bytes + 1, in->frame + 1, 4) == 0,
+        "another code or address");
+    for (size_t i = 0; i < length; i++) {
+        const uint64_t at = (uint64_t)f.address + i;
+        demand(bytes[5 + i] == (at < in->memory_length ? in->memory[at] : 0),
+            "not what stands in memory");
+    }
+}
+
+/* Nothing else changes what it keeps. */
+static void check_frame(const machine_input *in, mop_machine_step step)
 {
     const mop_fields f = mop_read(in->frame, in->frame_length);
-    if (in->call == MACHINE_FRAME && f.code == MOP_CODE_PARAMETERS)
+    if (f.code == MOP_CODE_PARAMETERS)
         check_parameters_frame(in, f, step);
     else
         demand(
             same_parameters(&step.machine.parameters, &in->machine.parameters),
             "what it keeps was changed");
+    if (f.code == MOP_CODE_LOAD || f.code == MOP_CODE_LOAD_TRANSFER)
+        check_load_frame(in, f, step);
+    if (f.code == MOP_CODE_REQUEST_DUMP)
+        check_read_frame(in, f, step);
 }
 
 static void check_answer(
-    const input *in, unsigned refusal, mop_machine_step step)
+    const machine_input *in, unsigned refusal, mop_machine_step step)
 {
     check_written(step.answer, refusal, &reply);
     demand(lent_same_from(&memory, in->memory_length), "a red zone of memory");
@@ -154,7 +225,10 @@ static void check_answer(
         return;
     }
     demand(step.machine.state <= MOP_MACHINE_STARTED, "a state that is none");
-    check_kept(in, step);
+    if (in->call == MACHINE_FRAME)
+        check_frame(in, step);
+    else
+        demand(lent_same_from(&memory, 0), "a timer changed memory");
     if (step.answer.length == 0 && step.machine.state == in->machine.state)
         demand(same(step.machine, in->machine) && lent_same_from(&memory, 0),
             "neither taken nor ignored");
@@ -163,7 +237,7 @@ static void check_answer(
             "a reply that can't be read");
 }
 
-static mop_machine_step check_call(input *in)
+mop_machine_step machine_check(machine_input *in)
 {
     static uint8_t clear[BEYOND];
     mop_machine_step steps[2];
@@ -171,7 +245,7 @@ static mop_machine_step check_call(input *in)
         const bool load = in->call == MACHINE_START_LOAD;
         in->machine = (mop_machine){.state = (uint8_t)(load ? 2 : 1)};
     }
-    const unsigned refusal = wanted(in);
+    const unsigned refusal = machine_refusal(in);
     random_bytes(clear, in->room);
     for (int side = BEHIND; side <= BEFORE; side++) {
         lent_place(&frame, (enum side)side, in->frame, in->frame_length);
@@ -187,19 +261,30 @@ static mop_machine_step check_call(input *in)
     return steps[0];
 }
 
+/* A window in memory or near its end, none, or any. */
+static mop_window any_window(size_t memory_length)
+{
+    if (once_in(8))
+        return (mop_window){hostile(), hostile()};
+    if (once_in(3))
+        return (mop_window){hostile(), 0};
+    return (mop_window){below(memory_length + 4), below(memory_length / 2 + 4)};
+}
+
 /* Settings and a record, mostly good; the padding is anything. */
-static void any_numbers(input *in)
+static void any_numbers(machine_input *in)
 {
     random_bytes((uint8_t *)&in->settings, sizeof in->settings);
     random_bytes((uint8_t *)&in->machine, sizeof in->machine);
     in->settings.reply_bytes =
         (uint32_t)(once_in(8) ? hostile() : 1 + below(MOP_DUMP_DATA_MOST));
+    in->settings.window = any_window(in->memory_length);
     in->machine.state = (uint8_t)(once_in(16) ? hostile() : below(5));
     in->room = any_room();
 }
 
 /* A frame, often one that the machine takes. */
-static void any_machine_frame(input *in)
+static void any_machine_frame(machine_input *in)
 {
     static const uint8_t heeds[] = {0, 2, 4, 20, 24, 1};
     in->frame_length = any_frame(in->frame);
@@ -218,16 +303,16 @@ static void any_machine_frame(input *in)
 
 static void check_any(const uint8_t *bytes, size_t length, enum call call)
 {
-    input in = {.call = call, .memory = bytes, .memory_length = length};
+    machine_input in = {.call = call, .memory = bytes, .memory_length = length};
     any_numbers(&in);
     any_machine_frame(&in);
-    check_call(&in);
+    machine_check(&in);
 }
 
 /* ---- Parameters. */
 
 /* Lays an entry, whose value are these letters, behind the others. */
-static void lay(input *in, uint8_t type, const char *letters)
+static void lay(machine_input *in, uint8_t type, const char *letters)
 {
     const size_t length = strlen(letters);
     in->frame[in->frame_length++] = type;
@@ -237,7 +322,8 @@ static void lay(input *in, uint8_t type, const char *letters)
 }
 
 /* A code 20 that is taken, with the entries that lay_entries lays: its end. */
-static mop_machine_step kept(input *in, void (*lay_entries)(input *in))
+static mop_machine_step kept(
+    machine_input *in, void (*lay_entries)(machine_input *in))
 {
     in->call = MACHINE_FRAME;
     in->settings = (mop_machine_settings){.reply_bytes = 1};
@@ -249,10 +335,10 @@ static mop_machine_step kept(input *in, void (*lay_entries)(input *in))
     in->frame[in->frame_length] = 0;
     put32(in->frame + in->frame_length + 1, 0x01020304);
     in->frame_length += 5;
-    return check_call(in);
+    return machine_check(in);
 }
 
-static void lay_all(input *in)
+static void lay_all(machine_input *in)
 {
     lay(in, MOP_ENTRY_TARGET_NAME, "ABCDEFGHIJKLMNOP");
     lay(in, MOP_ENTRY_TARGET_ADDRESS, "abcdef");
@@ -261,13 +347,13 @@ static void lay_all(input *in)
     lay(in, MOP_ENTRY_HOST_TIME, "\x13\x55\x03\x1F\x17\x3B\x3B\x63\xFB\xE2");
 }
 
-static void lay_nothing(input *in)
+static void lay_nothing(machine_input *in)
 {
     (void)in;
 }
 
 /* Types more than once and in any order, the shorter value last. */
-static void lay_again(input *in)
+static void lay_again(machine_input *in)
 {
     lay(in, MOP_ENTRY_HOST_NAME, "QRSTUVWXYZ012345");
     lay(in, MOP_ENTRY_TARGET_ADDRESS, "abcdef");
@@ -280,7 +366,7 @@ static void lay_again(input *in)
 /* What is kept, over a record that keeps longer values. */
 static void check_parameters(void)
 {
-    static input in;
+    static machine_input in;
     const mop_parameters none = {0}, again = {.target_name = {2, {'O', 'P'}},
                                          .target_address = {1, {'m'}}};
     const mop_parameters all = kept(&in, lay_all).machine.parameters;
@@ -321,14 +407,14 @@ void test_machine(void)
     reply = lent_make(BEYOND);
     random_bytes(bytes, sizeof bytes);
     for (size_t length = 0; length < BEYOND; length += stride()) {
-        input in = {.memory = bytes, .memory_length = length};
+        machine_input in = {.memory = bytes, .memory_length = length};
         for (int i = 0; i < 32; i++) {
             in.call = i < 3 ? each[i] : MACHINE_FRAME;
             any_numbers(&in);
             in.frame_length = length;
             random_bytes(in.frame, length);
             in.frame[0] = (uint8_t)i;
-            check_call(&in);
+            machine_check(&in);
         }
     }
     for (unsigned i = 0; i < cases(200000); i++)

@@ -20,6 +20,7 @@ int main(int argc, char **argv)
     test_writing();
     test_images();
     test_machine();
+    test_windows();
     test_load();
     test_strings();
     test_dump();

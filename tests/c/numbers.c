@@ -159,6 +159,13 @@ static int machine_refusal(uint32_t reply_bytes, size_t memory_length)
         .answer.refusal;
 }
 
+static int window_refusal(uint64_t start, uint64_t length)
+{
+    const mop_machine_settings s = {
+        .reply_bytes = 1, .window = {.start = start, .length = length}};
+    return mop_machine_start_load(s, large, 1, out, sizeof out).answer.refusal;
+}
+
 static int loop_refusal(uint32_t repeats, size_t data_length)
 {
     const mop_loop_settings s = {.repeats = repeats};
@@ -193,6 +200,31 @@ static void test_settings(void)
     demand(loop_refusal(MOP_REPEATS_MOST + 1, 0) == MOP_REFUSED_RANGE &&
                loop_refusal(0, MOP_LOOP_DATA_MOST + 1) == MOP_REFUSED_RANGE,
         "more than the loop test's most");
+}
+
+/* A window ends where the addresses end, or before; one of no bytes may begin
+ * anywhere. */
+static void test_windows(void)
+{
+    const uint64_t end = UINT64_C(1) << 32;
+    demand(window_refusal(0, end) == MOP_ACCEPTED &&
+               window_refusal(1, end - 1) == MOP_ACCEPTED &&
+               window_refusal(end - 1, 1) == MOP_ACCEPTED,
+        "a window up to the last address");
+    demand(window_refusal(0, end + 1) == MOP_REFUSED_RANGE &&
+               window_refusal(1, end) == MOP_REFUSED_RANGE &&
+               window_refusal(end, 1) == MOP_REFUSED_RANGE,
+        "a window past the last address");
+    demand(window_refusal(UINT64_MAX, 1) == MOP_REFUSED_RANGE &&
+               window_refusal(1, UINT64_MAX) == MOP_REFUSED_RANGE &&
+               window_refusal(UINT64_MAX, end) == MOP_REFUSED_RANGE &&
+               window_refusal(UINT64_MAX, UINT64_MAX) == MOP_REFUSED_RANGE,
+        "a window whose end has more than 64 bits");
+    demand(window_refusal(0, 0) == MOP_ACCEPTED &&
+               window_refusal(end, 0) == MOP_ACCEPTED &&
+               window_refusal(end + 1, 0) == MOP_ACCEPTED &&
+               window_refusal(UINT64_MAX, 0) == MOP_ACCEPTED,
+        "no window");
 }
 
 /* ---- Lists of a frame's fields. */
@@ -371,6 +403,7 @@ int main(void)
     test_frames();
     test_ethernet();
     test_settings();
+    test_windows();
     test_programs();
     test_states();
     test_verdicts();

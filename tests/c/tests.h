@@ -9,6 +9,7 @@ void test_reading(void);
 void test_writing(void);
 void test_images(void);
 void test_machine(void);
+void test_windows(void); /* after test_machine, whose buffers it uses */
 void test_load(void);
 void test_strings(void); /* after test_load, whose buffers it uses */
 void test_dump(void);

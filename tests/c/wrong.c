@@ -18,6 +18,10 @@ mop_machine_step REAL(mop_machine_frame)(mop_machine_settings, mop_machine,
     const uint8_t *, size_t, uint8_t *, size_t, uint8_t *, size_t);
 mop_machine_step WRAP(mop_machine_frame)(mop_machine_settings, mop_machine,
     const uint8_t *, size_t, uint8_t *, size_t, uint8_t *, size_t);
+mop_machine_step REAL(mop_machine_timer)(mop_machine_settings, mop_machine,
+    const uint8_t *, size_t, uint8_t *, size_t);
+mop_machine_step WRAP(mop_machine_timer)(mop_machine_settings, mop_machine,
+    const uint8_t *, size_t, uint8_t *, size_t);
 mop_load_step REAL(mop_load_timer)(mop_load_settings, mop_load, const uint8_t *,
     size_t, const uint8_t *, size_t, uint8_t *, size_t);
 mop_load_step WRAP(mop_load_timer)(mop_load_settings, mop_load, const uint8_t *,
@@ -37,6 +41,48 @@ mop_written REAL(mop_dump_update_timer)(
     mop_dump_settings, mop_dump *, const uint8_t *, size_t, uint8_t *, size_t);
 mop_written WRAP(mop_dump_update_timer)(
     mop_dump_settings, mop_dump *, const uint8_t *, size_t, uint8_t *, size_t);
+
+/* A call of the machine, and the library's own in its place. */
+#define WRONG_FRAME                                                            \
+    mop_machine_step WRAP(mop_machine_frame)(mop_machine_settings settings,    \
+        mop_machine machine, const uint8_t *frame, size_t length,              \
+        uint8_t *memory, size_t size, uint8_t *reply, size_t room)
+#define REAL_FRAME                                                             \
+    REAL(mop_machine_frame)                                                    \
+    (settings, machine, frame, length, memory, size, reply, room)
+#define WRONG_TIMER                                                            \
+    mop_machine_step WRAP(mop_machine_timer)(mop_machine_settings settings,    \
+        mop_machine machine, const uint8_t *memory, size_t size,               \
+        uint8_t *reply, size_t room)
+#define REAL_TIMER                                                             \
+    REAL(mop_machine_timer)(settings, machine, memory, size, reply, room)
+
+#if WRONG >= 22
+#define ADDRESSES (UINT64_C(1) << 32)
+
+/* A window that is not refused, one byte longer or shorter at an end. */
+static inline mop_window with_end(mop_window w, int front, int back)
+{
+    const uint64_t end = w.start + w.length;
+    if (w.length == 0 || w.length > ADDRESSES || w.start > ADDRESSES ||
+        end > ADDRESSES || (front < 0 && w.start == 0) ||
+        (back > 0 && end == ADDRESSES))
+        return w;
+    return (mop_window){
+        w.start + (uint64_t)front, w.length - (uint64_t)front + (uint64_t)back};
+}
+
+static inline int inside(mop_window w, uint64_t address)
+{
+    return address >= w.start && address - w.start < w.length;
+}
+
+/* Whether the answer is that the load does not fit. */
+static inline int turned_away(mop_written answer, const uint8_t *reply)
+{
+    return answer.length == 3 && reply[0] == MOP_CODE_REQUEST_LOAD && reply[2];
+}
+#endif
 
 #if WRONG == 1 /* looks at the byte behind the frame */
 mop_fields WRAP(mop_read)(const uint8_t *frame, size_t length)
@@ -90,23 +136,17 @@ mop_image WRAP(mop_image_check)(const uint8_t *file, size_t length, uint32_t s)
     return REAL(mop_image_check)(file, length, s);
 }
 #elif WRONG == 8  /* changes memory and refuses */
-mop_machine_step WRAP(mop_machine_frame)(mop_machine_settings settings,
-    mop_machine machine, const uint8_t *frame, size_t length, uint8_t *memory,
-    size_t size, uint8_t *reply, size_t room)
+WRONG_FRAME
 {
-    const mop_machine_step step = REAL(mop_machine_frame)(
-        settings, machine, frame, length, memory, size, reply, room);
+    const mop_machine_step step = REAL_FRAME;
     if (step.answer.refusal != 0 && size > 0)
         memory[size - 1] ^= 1;
     return step;
 }
 #elif WRONG == 9  /* minds what a state does not use */
-mop_machine_step WRAP(mop_machine_frame)(mop_machine_settings settings,
-    mop_machine machine, const uint8_t *frame, size_t length, uint8_t *memory,
-    size_t size, uint8_t *reply, size_t room)
+WRONG_FRAME
 {
-    mop_machine_step step = REAL(mop_machine_frame)(
-        settings, machine, frame, length, memory, size, reply, room);
+    mop_machine_step step = REAL_FRAME;
     if (room < MOP_FRAME_MOST && machine.expected != 0)
         step.answer.refusal = MOP_REFUSED_RANGE;
     return step;
@@ -177,12 +217,9 @@ mop_written WRAP(mop_dump_update_timer)(mop_dump_settings settings,
     return answer;
 }
 #elif WRONG == 16 /* changes the record on a frame that it ignores */
-mop_machine_step WRAP(mop_machine_frame)(mop_machine_settings settings,
-    mop_machine machine, const uint8_t *frame, size_t length, uint8_t *memory,
-    size_t size, uint8_t *reply, size_t room)
+WRONG_FRAME
 {
-    mop_machine_step step = REAL(mop_machine_frame)(
-        settings, machine, frame, length, memory, size, reply, room);
+    mop_machine_step step = REAL_FRAME;
     if (step.answer.refusal == 0 && step.answer.length == 0)
         step.machine.error ^= 1;
     return step;
@@ -219,26 +256,124 @@ mop_load_step WRAP(mop_load_timer)(mop_load_settings settings, mop_load session,
         settings, session, file, size, string, length, reply, room);
 }
 #elif WRONG == 20 /* leaves the end of a longer value behind a shorter one */
-mop_machine_step WRAP(mop_machine_frame)(mop_machine_settings settings,
-    mop_machine machine, const uint8_t *frame, size_t length, uint8_t *memory,
-    size_t size, uint8_t *reply, size_t room)
+WRONG_FRAME
 {
-    mop_machine_step step = REAL(mop_machine_frame)(
-        settings, machine, frame, length, memory, size, reply, room);
+    mop_machine_step step = REAL_FRAME;
     mop_value *name = &step.machine.parameters.host_name;
     for (size_t i = name->length; i < MOP_VALUE_MOST; i++)
         name->bytes[i] = machine.parameters.host_name.bytes[i];
     return step;
 }
 #elif WRONG == 21 /* keeps what stood there for a type that is absent */
-mop_machine_step WRAP(mop_machine_frame)(mop_machine_settings settings,
-    mop_machine machine, const uint8_t *frame, size_t length, uint8_t *memory,
-    size_t size, uint8_t *reply, size_t room)
+WRONG_FRAME
 {
-    mop_machine_step step = REAL(mop_machine_frame)(
-        settings, machine, frame, length, memory, size, reply, room);
+    mop_machine_step step = REAL_FRAME;
     if (step.machine.parameters.host_time.length == 0)
         step.machine.parameters.host_time = machine.parameters.host_time;
     return step;
+}
+#elif WRONG == 22 /* changes a byte of the window with a load that it rejects */
+WRONG_FRAME
+{
+    const mop_machine_step step = REAL_FRAME;
+    if (turned_away(step.answer, reply) && settings.window.length > 0 &&
+        settings.window.start < size)
+        memory[settings.window.start] ^= 1;
+    return step;
+}
+#elif WRONG == 23 /* lays what of a rejected load comes before the window */
+WRONG_FRAME
+{
+    const mop_fields f = mop_read(frame, length);
+    const mop_machine_step step = REAL_FRAME;
+    for (size_t i = 0; i < f.data_length; i++)
+        if (turned_away(step.answer, reply) &&
+            f.address + f.data_length <= size &&
+            f.address + i < settings.window.start)
+            memory[f.address + i] = frame[f.data_at + i];
+    return step;
+}
+#elif WRONG == 24 /* takes a load into the window's first byte */
+WRONG_FRAME
+{
+    settings.window = with_end(settings.window, 1, 0);
+    return REAL_FRAME;
+}
+#elif WRONG == 25 /* takes a load into the window's last byte */
+WRONG_FRAME
+{
+    settings.window = with_end(settings.window, 0, -1);
+    return REAL_FRAME;
+}
+#elif WRONG == 26 /* rejects a load that ends where the window begins */
+WRONG_FRAME
+{
+    settings.window = with_end(settings.window, -1, 0);
+    return REAL_FRAME;
+}
+#elif WRONG == 27 /* rejects a load that begins where the window ends */
+WRONG_FRAME
+{
+    settings.window = with_end(settings.window, 0, 1);
+    return REAL_FRAME;
+}
+#elif WRONG == 28 /* rejects a load without bytes inside the window */
+WRONG_FRAME
+{
+    const mop_fields f = mop_read(frame, length);
+    if (f.data_length == 0 && inside(settings.window, f.address) &&
+        (f.code == MOP_CODE_LOAD || f.code == MOP_CODE_LOAD_TRANSFER))
+        size = 0;
+    return REAL_FRAME;
+}
+#elif WRONG == 29 /* looks at the first and the last byte of a load alone */
+WRONG_FRAME
+{
+    const mop_fields f = mop_read(frame, length);
+    const mop_window w = settings.window;
+    if (f.address < w.start && w.start < ADDRESSES && w.length < ADDRESSES &&
+        w.start + w.length < f.address + f.data_length)
+        settings.window.length = 0;
+    return REAL_FRAME;
+}
+#elif WRONG == 30 /* gives zeros for the window in a dump */
+WRONG_FRAME
+{
+    const mop_machine_step step = REAL_FRAME;
+    const uint64_t address = mop_read(frame, length).address;
+    for (size_t i = 5; i < step.answer.length; i++)
+        if (reply[0] == MOP_CODE_DUMP_DATA &&
+            inside(settings.window, address + i - 5))
+            reply[i] = 0;
+    return step;
+}
+#elif WRONG == 31 /* refuses a window that ends at the last address */
+WRONG_TIMER
+{
+    const mop_window w = settings.window;
+    if (w.length > 0 && w.start + w.length == ADDRESSES)
+        settings.reply_bytes = 0;
+    return REAL_TIMER;
+}
+#elif WRONG == 32 /* takes a window that ends one address behind the last */
+WRONG_TIMER
+{
+    if (settings.window.start + settings.window.length == ADDRESSES + 1)
+        settings.window.length = 0;
+    return REAL_TIMER;
+}
+#elif WRONG == 33 /* takes a window whose end has more than 64 bits */
+WRONG_TIMER
+{
+    if (settings.window.start + settings.window.length < settings.window.start)
+        settings.window.length = 0;
+    return REAL_TIMER;
+}
+#elif WRONG == 34 /* minds where a window of no bytes begins */
+WRONG_TIMER
+{
+    if (settings.window.length == 0 && settings.window.start > ADDRESSES)
+        settings.reply_bytes = 0;
+    return REAL_TIMER;
 }
 #endif

@@ -32,6 +32,9 @@ own_line() {
     done
 }
 
+# address INTERFACE: its Ethernet address.
+address() { ip -o link show "$1" | sed 's/.*ether \([^ ]*\) .*/\1/' | tr : -; }
+
 passed=0
 failed=0
 work=$(mktemp -d)

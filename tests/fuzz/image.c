@@ -71,6 +71,15 @@ static void check_words(const contents *file, mop_image image, size_t wrong)
     free(text);
 }
 
+/* The region that is told of a segment. */
+static void check_region(const contents *file, mop_image image, uint32_t size)
+{
+    uint64_t index = below((uint32_t)image.segments);
+    mop_segment segment = mop_image_segment(file->bytes, file->length, size, index);
+    require(image_region(file, image, segment.address) == slow_region(file->bytes, file->length, segment.address),
+        "a segment's region is the one that has its address");
+}
+
 bool fuzz_image(void)
 {
     make_image();
@@ -82,9 +91,12 @@ bool fuzz_image(void)
         mend_length();
     contents file = exact();
     size_t entry = 0;
-    mop_image image = mop_image_check(file.bytes, file.length, 1 + below(MOP_SEGMENT_MOST));
+    uint32_t size = 1 + below(one_in(2) ? 8 : MOP_SEGMENT_MOST);
+    mop_image image = mop_image_check(file.bytes, file.length, size);
     require(image.refusal == slow_image(file.bytes, file.length, &entry), "the refusal is the slow reader's");
     check_words(&file, image, entry);
+    if (image.refusal == MOP_ACCEPTED)
+        check_region(&file, image, size);
     free(file.bytes);
     return image.refusal == MOP_ACCEPTED;
 }

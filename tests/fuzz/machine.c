@@ -61,7 +61,16 @@ static size_t check_sent(const machine_end *m)
     return count;
 }
 
-/* Memory is the old one, or the old one with the frame's data laid over it. */
+/* Whether a byte of the load would go into the ROM window. */
+static bool in_rom(const mop_window *rom, const mop_fields *load)
+{
+    for (uint64_t i = 0; i < load->data_length; i++)
+        if (load->address + i >= rom->start && load->address + i < rom->start + rom->length)
+            return true;
+    return false;
+}
+
+/* Memory is the old one, or the old one with the frame's data laid over it beside the ROM. */
 static void check_memory(const machine_end *m, uint8_t *old, const line_frame *frame, bool foreign)
 {
     mop_fields fields = mop_read(frame->bytes, frame->length);
@@ -71,6 +80,7 @@ static void check_memory(const machine_end *m, uint8_t *old, const line_frame *f
         return;
     require(load && !foreign && (uint64_t)fields.address + fields.data_length <= MEMORY_LENGTH,
         "memory is changed by the host's loads alone");
+    require(!in_rom(&m->settings.window, &fields), "no load touches the ROM");
     memcpy(old + fields.address, frame->bytes + fields.data_at, fields.data_length);
     require(memcmp(old, m->memory.bytes, MEMORY_LENGTH) == 0, "a load changes memory where it says");
 }
@@ -129,6 +139,25 @@ static void hand_frame(machine_end *m)
 
 /* ---- The session ----------------------------------------------------- */
 
+/* A ROM, mostly in memory, sometimes up to the last address, by the driver's own option. */
+static void any_rom(mop_window *rom)
+{
+    const uint64_t addresses = (uint64_t)UINT32_MAX + 1;
+    uint64_t from = one_in(4) ? any_number() : below(MEMORY_LENGTH), length = one_in(4) ? any_number() : below(60);
+    char words[2][24];
+    if (one_in(8))
+        from = 0;
+    if (one_in(8))
+        length = addresses - from + below(3) - 1;
+    snprintf(words[0], sizeof words[0], "%" PRIu64, from);
+    snprintf(words[1], sizeof words[1], "0x%" PRIX64, length);
+    bool taken = rom_option(words[0], words[1], rom) == 0;
+    require(taken == (length > 0 && from + length <= addresses), "a ROM ends at the last address or before");
+    require(!taken || (rom->start == from && rom->length == length), "a ROM is where it is said to be");
+    if (!taken)
+        rom->length = 0;
+}
+
 bool fuzz_machine(void)
 {
     static uint8_t memory[MEMORY_LENGTH];
@@ -138,6 +167,7 @@ bool fuzz_machine(void)
     m.common.timer = m.common.wait = 1000;
     m.memory = (contents){memory, MEMORY_LENGTH};
     m.settings.reply_bytes = 1 + below(MOP_ETHERNET_DUMP_DATA_MOST);
+    any_rom(&m.settings.window);
     m.offer = one_in(4);
     line_make(&m.line);
     require(start(&m) == 0 && check_sent(&m) == 1, "a machine begins with a frame");

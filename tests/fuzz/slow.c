@@ -190,6 +190,15 @@ int slow_image(const uint8_t *file, size_t length, size_t *entry)
     return 0;
 }
 
+unsigned slow_region(const uint8_t *file, size_t length, uint64_t address)
+{
+    const uint8_t *trailer = file + length - 16, *at = file + low_first(trailer, 4);
+    for (unsigned region = 1; at < trailer; region++, at += 12)
+        if (address >= low_first(at, 4) && address < low_first(at, 4) + low_first(at + 8, 4))
+            return region;
+    return 0;
+}
+
 /* ---- Parameters ------------------------------------------------------ */
 
 /* The number that some digits are, or -1. */

@@ -31,6 +31,9 @@ void slow_text(slow *s, const uint8_t *text, size_t length, bool motorola);
 /* The refusal of an image file: 0 for none, else 5 to 8, for 7 and 8 with the entry, counted from 0. */
 int slow_image(const uint8_t *file, size_t length, size_t *entry);
 
+/* The region of a good one that has this address, counted from 1; 0 for none. */
+unsigned slow_region(const uint8_t *file, size_t length, uint64_t address);
+
 /* The bytes of an address and of a time, as mopload's manual says; false if the text is none. */
 bool slow_address(const char *text, uint8_t *bytes, size_t *count);
 bool slow_time(const char *text, uint8_t *bytes, size_t *count);

@@ -11,6 +11,7 @@ pub const DUMP_MOST: u32 = 1495;
 /// The longest memory.
 pub const MEMORY_MOST: usize = 16_777_216;
 
+const ADDRESS_END: u64 = 1 << 32;
 const FORMAT: u8 = 1;
 const OPERATING_SYSTEM: u8 = 2;
 const STANDARD_SYSTEM: u8 = 255;
@@ -22,6 +23,44 @@ pub struct Settings {
     pub dump_most: u32,
     pub device: u8,
     pub processor: u8,
+    pub window: Window,
+}
+
+/// The ROM window: so many addresses from `start` on that no load may touch,
+/// or none.
+#[derive(Clone, Copy, Debug)]
+pub struct Window {
+    /// W, the first of them.
+    pub start: u64,
+    /// V, how many.
+    pub length: u64,
+}
+
+impl Window {
+    pub const NONE: Window = Window {
+        start: 0,
+        length: 0,
+    };
+
+    /// Whether all of its addresses are below the end of them all. Without
+    /// any, its start does not matter.
+    fn is_good(&self) -> bool {
+        let room = ADDRESS_END.saturating_sub(self.start);
+        self.length == 0 || self.length <= room
+    }
+
+    /// Whether data would go into the window: both have bytes, and one begins
+    /// inside the other.
+    fn touches(&self, address: u32, data: &[u8]) -> bool {
+        let (address, bytes) = (u64::from(address), data.len() as u64);
+        if self.length == 0 || bytes == 0 {
+            return false;
+        }
+        match address.checked_sub(self.start) {
+            Some(behind) => behind < self.length,
+            None => self.start - address < bytes,
+        }
+    }
 }
 
 #[derive(Clone, Copy, Debug, PartialEq, Eq)]
@@ -150,18 +189,20 @@ pub fn frame(
     let reply = Reply::new(reply)?;
     let frame = frame::read(bytes)?;
     let state = &mut machine.state;
+    let window = settings.window;
+    let store = Store { memory, window };
     Ok(match frame {
         Frame::Load {
             number,
             address,
             data,
-        } => load(state, number, address, data, None, memory, reply),
+        } => load(state, number, address, data, None, store, reply),
         Frame::LoadTransfer {
             number,
             address,
             data,
             transfer,
-        } => load(state, number, address, data, Some(transfer), memory, reply),
+        } => load(state, number, address, data, Some(transfer), store, reply),
         Frame::Parameters {
             number,
             entries,
@@ -169,7 +210,7 @@ pub fn frame(
         } => parameters(machine, number, entries, transfer, reply),
         Frame::RequestDump { address, count } if matches!(state, State::Idle | State::Offering) => {
             let length = settings.dump_most.min(count.into()) as usize;
-            dump(address, length, memory, reply)
+            dump(address, length, store.memory, reply)
         }
         Frame::DumpComplete if *state == State::Offering => {
             *state = State::Idle;
@@ -184,7 +225,7 @@ pub fn frame(
 
 fn check(settings: Settings, memory: &[u8]) -> Result<(), Refusal> {
     check_most(settings.dump_most, DUMP_MOST)?;
-    if memory.len() > MEMORY_MOST {
+    if memory.len() > MEMORY_MOST || !settings.window.is_good() {
         return Err(BAD_SETTING);
     }
     Ok(())
@@ -197,12 +238,12 @@ fn load(
     address: u32,
     data: &[u8],
     transfer: Option<u32>,
-    memory: &mut [u8],
+    store: Store,
     reply: Reply,
 ) -> Sent {
     match judge(*state, number) {
         Number::Taken => {
-            let fits = deposit(address, data, memory);
+            let fits = store.deposit(address, data);
             let expected = number.wrapping_add(1);
             let error = if fits { 0 } else { 1 };
             *state = match transfer {
@@ -260,18 +301,30 @@ fn judge(state: State, number: u8) -> Number {
     }
 }
 
-/// Puts data into memory if all of it fits, and says whether it did.
-fn deposit(address: u32, data: &[u8], memory: &mut [u8]) -> bool {
-    let start = address as usize;
-    let place = memory
-        .get_mut(start..)
-        .and_then(|rest| rest.get_mut(..data.len()));
-    match place {
-        Some(place) => {
-            place.copy_from_slice(data);
-            true
+/// Where loads go.
+struct Store<'a> {
+    memory: &'a mut [u8],
+    window: Window,
+}
+
+impl Store<'_> {
+    /// Puts data into memory if all of it fits, and says whether it did.
+    fn deposit(self, address: u32, data: &[u8]) -> bool {
+        if self.window.touches(address, data) {
+            return false;
         }
-        None => false,
+        let start = address as usize;
+        let place = self
+            .memory
+            .get_mut(start..)
+            .and_then(|rest| rest.get_mut(..data.len()));
+        match place {
+            Some(place) => {
+                place.copy_from_slice(data);
+                true
+            }
+            None => false,
+        }
     }
 }
 

@@ -24,6 +24,7 @@ const MACHINE: machine::Settings = machine::Settings {
     dump_most: 1,
     device: 0,
     processor: 0,
+    window: machine::Window::NONE,
 };
 
 /// A rehearsal that was run.

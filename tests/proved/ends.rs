@@ -2,6 +2,14 @@
 
 use crate::{Written, input, output};
 
+/// `mop_window`
+#[repr(C)]
+#[derive(Clone, Copy, Debug, Default, PartialEq, Eq)]
+pub struct Window {
+    pub start: u64,
+    pub length: u64,
+}
+
 /// `mop_machine_settings`
 #[repr(C)]
 #[derive(Clone, Copy, Debug, Default, PartialEq, Eq)]
@@ -9,6 +17,7 @@ pub struct MachineSettings {
     pub reply_bytes: u32,
     pub device: u8,
     pub processor: u8,
+    pub window: Window,
 }
 
 /// `mop_value`

@@ -46,7 +46,8 @@ layout! {
     mop_written = Written { length, refusal }
     mop_image = Image { segments, transfer, regions, refusal }
     mop_segment = Segment { at, length, address, last, refusal }
-    mop_machine_settings = MachineSettings { reply_bytes, device, processor }
+    mop_window = Window { start, length }
+    mop_machine_settings = MachineSettings { reply_bytes, device, processor, window }
     mop_value = Value { length, bytes }
     mop_parameters = Parameters { target_name, target_address, host_name, host_address, host_time }
     mop_machine = Machine { transfer, state, expected, error, parameters }

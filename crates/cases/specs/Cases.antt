@@ -10,6 +10,7 @@ use Rattle.host_time.specs.HostTime.{field}
 use Rattle.message.specs.Message.{memoryLoadTransfer, requestLoad, parameters}
 use Rattle.message.specs.Read.{refused, message, find, fields, read}
 use Rattle.message.specs.Write.{layout}
+use Rattle.window.specs.Window.{touches, none as no-window}
 use Rattle.memory.specs.Memory.{fits, bytesFrom}
 use Rattle.step.specs.Step.{Outcome, first}
 use Rattle.directory.specs.Directory.{trailerOf, entryOf, entries, demand, entriesRefusal, refusal, regions}
@@ -45,7 +46,7 @@ seen m memory frame = record { machine = m; memory = memory; frame = frame }
 -- a step on a frame, with D 4 and a reply buffer of 1,500 bytes
 unfoldable pub step : Machine → List ℕ → Seen
 step m frame =
-    let out : Outcome Machine (List ℕ) = machineFrame (record { «reply_bytes» = 4; device = 0; processor = 0 }) m frame memory (replicate 1500 0) in
+    let out : Outcome Machine (List ℕ) = machineFrame (record { «reply_bytes» = 4; device = 0; processor = 0; window = no-window }) m frame memory (replicate 1500 0) in
     seen (out .end) (out .lent) (take (out .answer .length) (out .reply))
 
 pub record Cases : Type 0 where
@@ -78,7 +79,7 @@ pub record Cases : Type 0 where
       ≡ seen (idle none) memory (0x0E ∷ 0x06 ∷ 0x00 ∷ 0x00 ∷ 0x00 ∷ 7 ∷ 8 ∷ 0 ∷ 0 ∷ [])
 
 pub cases : Cases
-unfolding number low find fields read layout first fits bytesFrom byNumber onLoad next walk field trailerOf entryOf entries demand entriesRefusal many image hostTime step
+unfolding number low find fields read layout first fits touches bytesFrom byNumber onLoad next walk field trailerOf entryOf entries demand entriesRefusal many image hostTime step
 cases =
     record {
       K1 = refl;

@@ -4,6 +4,7 @@ use mathlib.Core.Path.{_≡_, refl}
 use mathlib.Core.Bool.{true}
 use mathlib.Core.List.{List, [], _∷_}
 use lib.ListN.{replicate}
+use Rattle.window.specs.Window.{none}
 use Rattle.octets.specs.Number.{number, low}
 use Rattle.message.specs.Read.{find, fields}
 use Rattle.message.specs.Write.{layout}
@@ -22,7 +23,7 @@ abbrev pub s : DumpSettings
 s = record { length = 3; address = 1; «request_bytes» = 2; repeats = 1 }
 
 abbrev pub ms : MachineSettings
-ms = record { «reply_bytes» = 1495; device = 0; processor = 0 }
+ms = record { «reply_bytes» = 1495; device = 0; processor = 0; window = none }
 
 accepted : (dumpChecks.settled s 3 ≡ true) × (machineChecks.refusal ms machine.offering 3 1500 ≡ 0)
 unfolding first

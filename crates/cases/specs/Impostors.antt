@@ -5,12 +5,13 @@ use mathlib.Core.Path.{refl, ap}
 use mathlib.Core.Bool.{Bool, cond as pick}
 use mathlib.Core.List.{List, [], _∷_, _++_}
 use native.Mathlib.Omega.{arith}
-use lib.ListN.{length, take, getD, replicate}
+use lib.ListN.{length, take, drop, getD, replicate}
 use lib.Dec.{eqb}
 use Rattle.octets.specs.Number.{number, low}
 use Rattle.buffer.specs.Lay.{over}
 use Rattle.entries_next.specs.Next.{next}
 use Rattle.entries.specs.Entries.{walk}
+use Rattle.window.specs.Window.{touches}
 use Rattle.memory.specs.Memory.{fits, bytesFrom}
 use Rattle.message.specs.Message.{dumpData}
 use Rattle.message.specs.Read.{find, fields, part}
@@ -33,6 +34,7 @@ use Rattle.link_dump.specs.Model as dump
 use Rattle.link_dump.specs.Model.{Host, hostEnd, dumpEnds, Dumped}
 use Rattle.cases.specs.LoadExample as loaded
 use Rattle.cases.specs.ParametersExample as given
+use Rattle.cases.specs.WindowExample as windowed
 use Rattle.cases.specs.DumpExample as dumped
 
 abbrev reply : List ℕ
@@ -58,7 +60,7 @@ withMachine frame =
 -- the claim, after a list of events from fresh ends with so many bytes of memory
 abbrev Claim : Ends Session End ⊥ → ℕ → List (Event ⊥) → Type 0
 Claim ends n es =
-    Report loaded.loadSettings loaded.image [] (replicate n 0) (run ends (load.freshWorld loaded.machineSettings (replicate n 0)) es)
+    Report loaded.loadSettings loaded.machineSettings loaded.image [] (replicate n 0) (run ends (load.freshWorld loaded.machineSettings (replicate n 0)) es)
 
 -- A machine that stores segment 0 and merely acknowledges the others: it leaves memory as it was.
 abbrev leaves : List ℕ → Turn End → Turn End
@@ -69,7 +71,7 @@ abbrev acknowledges : Ends Session End ⊥
 acknowledges = withMachine (λ e f b. pick (eqb (fields f .number) 0) (ours .machineFrame e f b) (leaves (e .memory) (ours .machineFrame e f b)))
 
 pub acknowledges-only : Claim acknowledges 8 whole → ⊥
-unfolding run laidOver loaded.image number low find fields layout first trailerOf entryOf entries demand entriesRefusal many segment fits byNumber onLoad
+unfolding run laidOver loaded.image number low find fields layout first trailerOf entryOf entries demand entriesRefusal many segment fits touches byNumber onLoad
 acknowledges-only r = let z = ap (λ (m : List ℕ). getD m 4 0) (r .finished refl .memory-is) in omega arith
 
 -- A machine that clips: it works as if memory were longer, and what is beyond memory's end is lost. Segment 1 is beyond 4 bytes.
@@ -81,7 +83,7 @@ abbrev clips : Ends Session End ⊥
 clips = withMachine (λ e f b. clipped (length (e .memory)) (ours .machineFrame (machineEnd (e .machine) (e .memory ++ replicate 8 0)) f b))
 
 pub clips-beyond : Claim clips 4 whole → ⊥
-unfolding run loaded.image number low find fields layout first trailerOf entryOf entries demand entriesRefusal many segment fits byNumber onLoad
+unfolding run loaded.image number low find fields layout first trailerOf entryOf entries demand entriesRefusal many segment fits touches byNumber onLoad
 clips-beyond r = let z = ap {B = ℕ} (λ (b : Bool). pick b 1 0) (r .finished refl .fitting 1 (omega arith)) in omega arith
 
 -- A host that says finished on the first reply.
@@ -93,7 +95,7 @@ abbrev hasty : Ends Session End ⊥
 hasty = withHost (λ h f b. pick (eqb (fields f .code) 10) (finished (ours .hostFrame h f b)) (ours .hostFrame h f b))
 
 pub finished-on-first : Claim hasty 8 (take 3 whole) → ⊥
-unfolding run laidOver loaded.image number low find fields layout first trailerOf entryOf entries demand entriesRefusal many segment fits byNumber onLoad
+unfolding run laidOver loaded.image number low find fields layout first trailerOf entryOf entries demand entriesRefusal many segment fits touches byNumber onLoad
 finished-on-first r = let z = ap (λ (m : List ℕ). getD m 4 0) (r .finished refl .memory-is) in omega arith
 
 -- A host that invents its count: one more than it sends.
@@ -107,6 +109,18 @@ inventive = withHost (λ h f b. more (ours .hostFrame h f b))
 pub invented-count : Claim inventive 8 (take 1 whole) → ⊥
 unfolding run loaded.image number low find fields layout first trailerOf entryOf entries demand entriesRefusal many segment
 invented-count r = let z = r .counted in omega arith
+
+-- A machine that lays a load around its ROM window: it works as if there were no window, puts the window's byte back, and says that all went in.
+abbrev spared : List ℕ → Turn End → Turn End
+spared old refuses = refuses
+spared old (acts e out) = acts (machineEnd (e .machine) (over (take 1 (drop 4 old)) 4 (e .memory))) out
+
+abbrev spares : Ends Session End ⊥
+spares = withMachine (λ e f b. spared (e .memory) (ours .machineFrame e f b))
+
+pub lays-around : Report loaded.loadSettings windowed.machineSettings loaded.image [] (replicate 8 7) (run spares (load.freshWorld windowed.machineSettings (replicate 8 7)) whole) → ⊥
+unfolding run loaded.image number low find fields layout first trailerOf entryOf entries demand entriesRefusal many segment fits touches byNumber onLoad
+lays-around r = let z = ap {B = ℕ} (λ (b : Bool). pick b 1 0) (r .finished refl .fitting 1 (omega arith)) in omega arith
 
 -- A machine that acknowledges the parameters and keeps none of them: it starts, and its record is as it was.
 abbrev unkept : Turn End → Turn End
@@ -124,8 +138,8 @@ forgets =
       further = ends .further;
     }
 
-pub keeps-none : Report given.loadSettings loaded.image given.string (replicate 8 0) (run forgets (load.freshWorld loaded.machineSettings (replicate 8 0)) given.events) → ⊥
-unfolding run loaded.image given.string given.events number low find fields layout first trailerOf entryOf entries demand entriesRefusal many segment fits byNumber onLoad onParameters latest walk next
+pub keeps-none : Report given.loadSettings loaded.machineSettings loaded.image given.string (replicate 8 0) (run forgets (load.freshWorld loaded.machineSettings (replicate 8 0)) given.events) → ⊥
+unfolding run loaded.image given.string given.events number low find fields layout first trailerOf entryOf entries demand entriesRefusal many segment fits touches byNumber onLoad onParameters latest walk next
 keeps-none r = let z = ap (λ (m : Machine). m .parameters .«target_name» .length) (r .finished refl .started refl) in omega arith
 
 -- ---- a dump of 3 bytes from address 1 of the memory 7, 8, 9, at most 2 at a time, into the buffer 5, 5, 5

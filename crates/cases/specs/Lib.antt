@@ -2,4 +2,5 @@ pub mod Cases
 pub mod LoadExample
 pub mod ParametersExample
 pub mod DumpExample
+pub mod WindowExample
 pub mod Impostors

@@ -8,6 +8,7 @@ use lib.ListN.{replicate}
 use Rattle.octets.specs.Number.{number, low}
 use Rattle.entries_next.specs.Next.{next}
 use Rattle.entries.specs.Entries.{walk}
+use Rattle.window.specs.Window.{touches}
 use Rattle.memory.specs.Memory.{fits}
 use Rattle.message.specs.Read.{find, fields}
 use Rattle.message.specs.Write.{layout}
@@ -71,7 +72,7 @@ pub worked : run (loadEnds loadSettings machineSettings image string) (freshWorl
       toHost = [];
       taken = 4;
     }
-unfolding image string events run number low find fields layout first trailerOf entryOf entries demand entriesRefusal many segment fits byNumber onLoad onParameters latest walk next
+unfolding image string events run number low find fields layout first trailerOf entryOf entries demand entriesRefusal many segment fits touches byNumber onLoad onParameters latest walk next
 worked = refl
 
 -- the string is accepted; so, as the load was reported finished, the machine's record holds what it says

@@ -41,7 +41,7 @@ pub struct Moved {
     pub sent: usize,
 }
 
-// The settings of both ends: without a parameter string. The machine's dump setting plays no part in a load.
+// The settings of both ends: without a parameter string or a ROM window. The machine's dump setting plays no part in a load.
 fn prepare(script: Script) -> Setup
     ensures { λ r. ⌜ r ≡ setup script ⌝ }
 {
@@ -55,6 +55,7 @@ fn prepare(script: Script) -> Setup
             reply_bytes: 1495,
             device: 0,
             processor: 0,
+            window: window::none(),
         },
     }
 }

@@ -9,6 +9,7 @@ pub mod MachineEnd
 pub mod MachineEndLaws
 pub mod Unrefused
 pub mod ByteLaws
+pub mod WindowLaws
 pub mod Bounded
 pub mod BoundedLaws
 pub mod Theorem

@@ -96,7 +96,7 @@ module _
   done p = started (pick (given s) (kept string) p) t
 
   abbrev fit : ℕ → ℕ → Bool
-  fit size i = pick (isParameters s file i) true (fits (address i) (length (bytes i)) size)
+  fit size i = pick (isParameters s file i) true (fits (ms .window) (address i) (length (bytes i)) size)
 
   abbrev lays : ℕ → List ℕ → List ℕ
   lays i memory = pick (isParameters s file i) memory (laid (bytes i) (address i) memory)
@@ -146,7 +146,7 @@ module _
         go : (g b : Bool) → given s ≡ g → (g && b ≡ false → i < N s file)
             → react ms m (fields (layout (is i g b))) (layout (is i g b)) memory
             ≡ byNumber m (i % 256)
-            (takenAs (m .parameters) (i % 256) (pick (g && b) true (fits (address i) (length (bytes i)) (length memory)))
+            (takenAs (m .parameters) (i % 256) (pick (g && b) true (fits (ms .window) (address i) (length (bytes i)) (length memory)))
             (pick b (started (pick g (kept string) (m .parameters)) t) (loading (m .parameters) (after (i % 256)) 0)) (pick (g && b) memory (laid (bytes i) (address i) memory)) memory) memory
         go true true e l = rw (string-fields i e, parameters-part (i % 256) string t)
         go true false e l = rw (other-fields i (l refl), load-part (i % 256) (address i) (bytes i))
@@ -168,20 +168,20 @@ module _
   takes-frame i m memory b l e = subst (Becomes _) (sized i m memory l e) (on-frame ms m memory b (layout (frameMessage s file string i)))
 
   -- a segment that fits lies within memory, so memory's length stays, and laid twice is laid once
-  inside : (i : ℕ) (memory : List ℕ) → length memory ≡ size → fits (address i) (length (bytes i)) size ≡ true → address i + length (bytes i) ≤ length memory
-  inside i memory z e = omega (arith, fits-inside (address i) (length (bytes i)) size e)
+  inside : (i : ℕ) (memory : List ℕ) → length memory ≡ size → fits (ms .window) (address i) (length (bytes i)) size ≡ true → address i + length (bytes i) ≤ length memory
+  inside i memory z e = omega (arith, fits-inside (ms .window) (address i) (length (bytes i)) size e)
 
   pub keeps-length : (i : ℕ) (memory : List ℕ) → fit size i ≡ true → length memory ≡ size → length (lays i memory) ≡ size
   keeps-length i memory = go (isParameters s file i)
     where
-      go : (p : Bool) → pick p true (fits (address i) (length (bytes i)) size) ≡ true → length memory ≡ size → length (pick p memory (laid (bytes i) (address i) memory)) ≡ size
+      go : (p : Bool) → pick p true (fits (ms .window) (address i) (length (bytes i)) size) ≡ true → length memory ≡ size → length (pick p memory (laid (bytes i) (address i) memory)) ≡ size
       go true e z = z
       go false e z = length-laid (bytes i) (address i) memory (inside i memory z e) ∙ z
 
   pub lays-again : (i : ℕ) (memory : List ℕ) → fit size i ≡ true → length memory ≡ size → lays i (lays i memory) ≡ lays i memory
   lays-again i memory = go (isParameters s file i)
     where
-      go : (p : Bool) → pick p true (fits (address i) (length (bytes i)) size) ≡ true → length memory ≡ size
+      go : (p : Bool) → pick p true (fits (ms .window) (address i) (length (bytes i)) size) ≡ true → length memory ≡ size
           → pick p (pick p memory (laid (bytes i) (address i) memory)) (laid (bytes i) (address i) (pick p memory (laid (bytes i) (address i) memory)))
           ≡ pick p memory (laid (bytes i) (address i) memory)
       go true e z = refl
@@ -193,7 +193,7 @@ module _
         many = frames s file;
         size = size;
         what = λ i. frameMessage s file string i;
-        fit = λ i. pick (isParameters s file i) true (fits (segmentOf file (s .«segment_size») i .address) (length (segmentOf file (s .«segment_size») i .bytes)) size);
+        fit = λ i. pick (isParameters s file i) true (fits (ms .window) (segmentOf file (s .«segment_size») i .address) (length (segmentOf file (s .«segment_size») i .bytes)) size);
         lays = λ i memory. pick (isParameters s file i) memory (laid (segmentOf file (s .«segment_size») i .bytes) (segmentOf file (s .«segment_size») i .address) memory);
         done = λ p. started (pick (given s) (kept string) p) (trailer file .transfer);
         some = omega (arith, many-range file (s .«segment_size») ok .0, frames-few s (many (s .«segment_size») (regions file)) .0);

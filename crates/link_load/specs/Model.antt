@@ -51,14 +51,14 @@ module _ (file : List ℕ) (S : ℕ) (memory : List ℕ) where
 abbrev pub segments : LoadSettings → List ℕ → ℕ → ℕ
 segments s file k = min k (many (s .«segment_size») (regions file))
 
-module _ (s : LoadSettings) (file string memory : List ℕ) where
+module _ (s : LoadSettings) (ms : MachineSettings) (file string memory : List ℕ) where
   -- The first k of the load's n frames are in: the segments among them fit, memory is the old memory with those laid over it, and the machine
   -- is Started with the image's transfer address and keeps what the parameter string says if k is n; otherwise it is not Started, and
   -- keeps nothing.
   pub record FirstIn (k : ℕ) (e : End) : Type 0 where
     pub most : k ≤ frames s file
     pub fitting : (i : ℕ) → i < segments s file k
-        → fits (segmentOf file (s .«segment_size») i .address) (length (segmentOf file (s .«segment_size») i .bytes)) (length memory) ≡ true
+        → fits (ms .window) (segmentOf file (s .«segment_size») i .address) (length (segmentOf file (s .«segment_size») i .bytes)) (length memory) ≡ true
     pub memory-is : e .memory ≡ laidOver file (s .«segment_size») memory (segments s file k)
     pub started : k ≡ frames s file → e .machine ≡ machine.started (leaves s string) (trailer file .transfer)
     pub not-started : (k ≡ frames s file → ⊥) → machine.is 4 (e .machine) ≡ false

@@ -23,6 +23,8 @@ use Rattle.link.specs.NumberedLaws as numbered
 use Rattle.link.specs.NumberedLaws.{Transfer}
 use Rattle.link.specs.AloneLaws.{Alone}
 use Rattle.link.specs.MachineEnd.{End}
+use Rattle.link.specs.WindowLaws as window
+use Rattle.link.specs.WindowLaws.{window-closed}
 use Rattle.link_load.specs.Model.{loadEnds, freshWorld, after, laidOver, segments, FirstIn}
 use Rattle.link_load.specs.Report.{Report}
 use Rattle.link_load.specs.HostLaws.{F, heard, timed}
@@ -34,15 +36,16 @@ use Rattle.link_load.specs.MeaningLaws as meaning
 use Rattle.link_load.specs.MeaningLaws.{Meaning, means}
 
 -- a report says nothing of the queues
-pub report-alike : (s : LoadSettings) (file string old : List ℕ) (w v : World Session End) → Alike w v → Report s file string old w → Report s file string old v
-report-alike s file string old w v a r =
+pub report-alike : (s : LoadSettings) (ms : MachineSettings) (file string old : List ℕ) (w v : World Session End) → Alike w v → Report s ms file string old w → Report s ms file string old v
+report-alike s ms file string old w v a r =
     let x : World Session End = record { host = w .host; machine = w .machine; toMachine = v .toMachine; toHost = v .toHost; taken = w .taken } in
     let same : x ≡ v = rw (a .0, a .1, a .2) in
-    subst (Report s file string old) same (record {
+    subst (Report s ms file string old) same (record {
       waiting = r .waiting;
       rejected = r .rejected;
       finished = r .finished;
       otherwise = r .otherwise;
+      window-kept = r .window-kept;
       counted = r .counted;
       bounded = r .bounded;
       rejected-at = r .rejected-at;
@@ -64,15 +67,18 @@ module _ (s : LoadSettings) (ms : MachineSettings) (file string old : List ℕ) 
   abbrev pub load-transfer : Transfer Session End
   load-transfer = sending fr (s .repeats) old
 
-  -- what every run keeps: the invariant of numbered frames, and a record whose numbers are good
+  -- what every run keeps: the invariant of numbered frames, a record whose numbers are good, and the bytes of the ROM window
   abbrev pub Inv : World Session End → Type 0
   Inv = numbered.Inv load-transfer (loadEnds s ms file string)
 
   abbrev pub Counts : World Session End → Type 0
   Counts = Alone (Good n (s .repeats)) (λ h. h .sent) (loadEnds s ms file string)
 
+  abbrev pub Windowed : World Session End → Type 0
+  Windowed = window.Kept ms (loadEnds s ms file string .hostFrame) (loadEnds s ms file string .hostTimer) (loadEnds s ms file string .further) old
+
   abbrev pub Kept : World Session End → Type 0
-  Kept w = Inv w × Counts w
+  Kept w = Inv w × Counts w × Windowed w
 
   inv : Closed (loadEnds s ms file string) Inv
   inv =
@@ -83,21 +89,27 @@ module _ (s : LoadSettings) (ms : MachineSettings) (file string old : List ℕ) 
   counting : Closed (loadEnds s ms file string) Counts
   counting = alone-load n (s .repeats) (fr .some) (F s file string) (loadEnds s ms file string) (heard s file string) (timed s file string)
 
+  windowed : Closed (loadEnds s ms file string) Windowed
+  windowed =
+      let ends = loadEnds s ms file string in window-closed ms (ends .hostFrame) (ends .hostTimer) (ends .further) old
+
   at-first : Kept (freshWorld ms old)
   unfolding machineAt laid
   at-first =
-      ((0, 0, numbered.begins load-transfer (loadEnds s ms file string) _ _ (fresh fr (s .repeats) old) refl), (fresh fr (s .repeats) old .good, refl))
+      ((0, 0, numbered.begins load-transfer (loadEnds s ms file string) _ _ (fresh fr (s .repeats) old) refl), (fresh fr (s .repeats) old .good, refl), λ a x. refl)
 
   pub kept : (es : List (Event ⊥)) → Kept (after s ms file string old es)
   kept es = (
     always (loadEnds s ms file string) Inv inv (λ w x. absurd x) (freshWorld ms old) es (at-first .0),
     always (loadEnds s ms file string) Counts counting (λ w x. absurd x) (freshWorld ms old) es (at-first .1),
+    always (loadEnds s ms file string) Windowed windowed (λ w x. absurd x) (freshWorld ms old) es (at-first .2),
   )
 
   pub kept-within : (n : ℕ) (es : List (Event ⊥)) → Kept (runWithin n (loadEnds s ms file string) (freshWorld ms old) es)
   kept-within n es = (
     always-within (loadEnds s ms file string) Inv inv (λ w x. absurd x) n (freshWorld ms old) es (at-first .0),
     always-within (loadEnds s ms file string) Counts counting (λ w x. absurd x) n (freshWorld ms old) es (at-first .1),
+    always-within (loadEnds s ms file string) Windowed windowed (λ w x. absurd x) n (freshWorld ms old) es (at-first .2),
   )
 
   -- the frames laid over are the segments among them
@@ -118,7 +130,7 @@ module _ (s : LoadSettings) (ms : MachineSettings) (file string old : List ℕ) 
           let y : min k N ≡ k = omega arith in
           rw (z, h, y)
 
-  frames-in : (k : ℕ) (e : End) → meaning.FirstIn fr old k e → FirstIn s file string old k e
+  frames-in : (k : ℕ) (e : End) → meaning.FirstIn fr old k e → FirstIn s ms file string old k e
   frames-in k e i =
       record {
         most = i .most;
@@ -129,7 +141,7 @@ module _ (s : LoadSettings) (ms : MachineSettings) (file string old : List ℕ) 
         keeps-nothing = i .keeps-nothing;
       }
 
-  pub report : (w : World Session End) → Kept w → Report s file string old w
+  pub report : (w : World Session End) → Kept w → Report s ms file string old w
   report w k =
       let i = k .0 in
       let g : Good n (s .repeats) (w .host) = k .1 .0 in
@@ -140,6 +152,7 @@ module _ (s : LoadSettings) (ms : MachineSettings) (file string old : List ℕ) 
         rejected = λ e. frames-in (w .host .position) (w .machine) (m .rejected e);
         finished = λ e. frames-in n (w .machine) (m .finished e);
         otherwise = λ a b c. ⊎-map (frames-in (w .host .position) (w .machine)) (frames-in (w .host .position + 1) (w .machine)) (m .otherwise a b);
+        window-kept = k .2;
         counted = omega (arith, k .1 .1);
         bounded = omega (arith, bound n (s .repeats) (w .host) g);
         rejected-at = λ e. g .otherwise (λ q. omega arith) .0;
@@ -148,6 +161,6 @@ module _ (s : LoadSettings) (ms : MachineSettings) (file string old : List ℕ) 
       }
 
 -- given up or unconfirmed: the frame on its way may be in
-pub on-way : (s : LoadSettings) (file string old : List ℕ) (w : World Session End) (v : ℕ) → 2 < v → w .host .verdict ≡ v → Report s file string old w
-    → FirstIn s file string old (w .host .position) (w .machine) ⊎ FirstIn s file string old (w .host .position + 1) (w .machine)
-on-way s file string old w v l e r = r .otherwise (λ q. omega (arith, r .waiting q .1)) (λ q. omega arith) (λ q. omega arith)
+pub on-way : (s : LoadSettings) (ms : MachineSettings) (file string old : List ℕ) (w : World Session End) (v : ℕ) → 2 < v → w .host .verdict ≡ v → Report s ms file string old w
+    → FirstIn s ms file string old (w .host .position) (w .machine) ⊎ FirstIn s ms file string old (w .host .position + 1) (w .machine)
+on-way s ms file string old w v l e r = r .otherwise (λ q. omega (arith, r .waiting q .1)) (λ q. omega arith) (λ q. omega arith)

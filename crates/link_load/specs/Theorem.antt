@@ -16,6 +16,6 @@ use Rattle.link_load.specs.ReportLaws.{kept, report}
 -- The theorem: one claim over the whole list, for an accepted image of bytes, no parameter string or an accepted one, any memory, any
 -- settings.
 pub reported : (s : LoadSettings) (ms : MachineSettings) (file string old : List ℕ) → cutRefusal file (s .«segment_size») ≡ 0 → Octets file
-    → stringRefusal s string ≡ 0 → (es : List (Event ⊥)) → Report s file string old (after s ms file string old es)
+    → stringRefusal s string ≡ 0 → (es : List (Event ⊥)) → Report s ms file string old (after s ms file string old es)
 reported s ms file string old ok o good es =
     report s ms file string old ok o good (after s ms file string old es) (kept s ms file string old ok o good es)

@@ -1,18 +1,15 @@
 -- What the machine sends on a frame is listed and has at most 1,500 bytes; a decision, sent and stored, is what the machine does.
 use Prim.Native.Nat.{ℕ, _+_, _≤_, min}
 use mathlib.Core.Path.{_≡_, refl, ap, sym, subst, _∙_}
-use mathlib.Core.Bool.{true, _||_, cond as pick}
+use mathlib.Core.Bool.{true, cond as pick}
 use mathlib.Core.List.{List}
 use native.Mathlib.Omega.{arith}
 use lib.ListN.{length, length-append, length-take, length-drop}
-use lib.Dec.{eqb}
-use borrow.Author.Tests.{eqb-true}
 use Rattle.buffer.specs.declared.Written.{Written}
 use Rattle.octets.specs.Number.{Octets}
 use Rattle.octets.specs.NumberLaws.{length-low}
-use Rattle.octets.specs.TestLaws.{by-cases}
 use Rattle.buffer.specs.Lay.{Came}
-use Rattle.memory.specs.Memory.{fits, deposited}
+use Rattle.memory.specs.Memory.{deposited}
 use Rattle.memory.specs.Laws.{length-bytesFrom}
 use Rattle.message.specs.declared.Fields.{Fields}
 use Rattle.message.specs.Message.{Message, loopData, loopedData}
@@ -23,10 +20,9 @@ use Rattle.step.specs.Step.{Sending, nothing, sends, Act, acts, gives, Leaves}
 use Rattle.step.specs.Laws.{sent-by, sent-leaves}
 use Rattle.machine_record.specs.declared.Settings.{Settings}
 use Rattle.machine_record.specs.declared.Machine.{Machine}
-use Rattle.machine_record.specs.Record.{is}
-use Rattle.machine_number.specs.Number.{heed}
 use Rattle.machine_next.specs.declared.Next.{Next}
-use Rattle.machine_next.specs.Next.{byNumber, onLoad, onParameters, onDump, react, sending, keeps, does}
+use Rattle.machine_next.specs.Next.{react, sending, keeps, does}
+use Rattle.machine_next.specs.ActedLaws.{Acted, ignored, answered, loaded, dumped, completed, looped, react-acted}
 use Rattle.machine.specs.Inner.{Short}
 
 -- ---- what is sent
@@ -40,40 +36,20 @@ loop-part s o z e =
     let size = length-low 2 (fields s .receipt) in
     simp length-append (omega (arith, simp length-append at same, fields-short s z))
 
-module _ (s : Settings) (m : Machine) (memory : List ℕ) where
-  P : Act Machine (List ℕ) → Type 0
-  P act = Short (act .sending)
-
-  load-short : (number address : ℕ) (bytes : List ℕ) (fitted : Machine) → P (onLoad m number address bytes fitted memory)
-  unfolding onLoad byNumber layout P
-  load-short number address bytes fitted =
-      by-cases P (eqb (heed m number) 1) (λ _.
-      by-cases P (fits address (length bytes) (length memory)) (λ _. (refl, omega arith)) (λ _. (refl, omega arith))) (λ _.
-      by-cases P (eqb (heed m number) 2) (λ _. (refl, omega arith)) (λ _. tt))
-
-  parameters-short : (number : ℕ) (entries : List ℕ) (transfer : ℕ) → P (onParameters m number entries transfer memory)
-  unfolding onParameters byNumber layout P
-  parameters-short number entries transfer =
-      by-cases P (eqb (heed m number) 1) (λ _. (refl, omega arith)) (λ _. by-cases P (eqb (heed m number) 2) (λ _. (refl, omega arith)) (λ _. tt))
-
-  dump-short : (address count : ℕ) → s .«reply_bytes» ≤ 1495 → P (onDump s m address count memory)
-  unfolding layout P
-  dump-short address count h =
-      let n = min count (s .«reply_bytes») in
-      let size = length-bytesFrom memory address n in
-      by-cases P (is 0 m || is 1 m) (λ _. (refl, simp (length-append, length-low) (omega arith))) (λ _. tt)
-
-  pub react-short : (frame : List ℕ) → Octets frame → fields frame .refusal ≡ 0 → s .«reply_bytes» ≤ 1495
-      → Short (react s m (fields frame) frame memory .sending)
-  unfolding P
-  react-short frame o z h =
-      let f = fields frame in
-      by-cases P (eqb (f .code) 0) (λ _. load-short (f .number) (f .address) (part frame f) _) (λ _.
-      by-cases P (eqb (f .code) 2) (λ _. load-short (f .number) (f .address) (part frame f) _) (λ _.
-      by-cases P (eqb (f .code) 20) (λ _. parameters-short (f .number) (part frame f) (f .transfer)) (λ _.
-      by-cases P (eqb (f .code) 4) (λ _. dump-short (f .address) (f .count) h) (λ _.
-      by-cases P (eqb (f .code) 1) (λ _. by-cases P (is 1 m) (λ _. tt) (λ _. tt)) (λ _.
-      by-cases P (eqb (f .code) 24) (λ e. by-cases P (is 0 m) (λ _. (refl, loop-part frame o z (eqb-true (f .code) 24 e))) (λ _. tt)) (λ _. tt))))))
+pub react-short : (s : Settings) (m : Machine) (memory frame : List ℕ) → Octets frame → fields frame .refusal ≡ 0 → s .«reply_bytes» ≤ 1495
+    → Short (react s m (fields frame) frame memory .sending)
+unfolding layout
+react-short s m memory frame o z h = go _ (react-acted s m (fields frame) frame memory)
+  where
+    go : (act : Act Machine (List ℕ)) → Acted s m (fields frame) frame memory act → Short (act .sending)
+    go act ignored = tt
+    go act (answered m′ number error l) = (refl, omega arith)
+    go act (loaded m′ number l e) = (refl, omega arith)
+    go act (dumped l) =
+        let size = length-bytesFrom memory (fields frame .address) (min (fields frame .count) (s .«reply_bytes»)) in
+        (refl, simp (length-append, length-low) (omega arith))
+    go act (completed e) = tt
+    go act (looped c e) = (refl, loop-part frame o z c)
 
 -- a message that goes out is what its writer gives
 pub goes-out : (m : Machine) (memory reply : List ℕ) (out : Sending) (what : Message) {answer : Written} {buffer : List ℕ} → out ≡ sends what → Short out
@@ -91,8 +67,8 @@ lent-changed (sends what) m memory changed reply l e = (l .0, l .1, e, l .3)
 
 -- ---- a frame that is accepted, and the decision on it
 module _ (s : Settings) (m : Machine) (frame memory reply : List ℕ) (f : Fields) (next : Next) (h : f ≡ fields frame)
-    (d : (frame memory′ : List ℕ) → length (part frame f) ≡ f .«data_length» → length memory′ ≡ length memory → does f frame memory′ next ≡ react s m f frame memory′) where
-  decided : does f frame memory next ≡ react s m (fields frame) frame memory
+    (d : (frame memory′ : List ℕ) → length (part frame f) ≡ f .«data_length» → length memory′ ≡ length memory → does s f frame memory′ next ≡ react s m f frame memory′) where
+  decided : does s f frame memory next ≡ react s m (fields frame) frame memory
   decided =
       let inside : f .«data_at» + f .«data_length» ≤ length frame = rw h (fields-inside frame) in
       let size : length (part frame f) ≡ f .«data_length» = simp (length-take, length-drop) (omega arith) in
@@ -105,7 +81,7 @@ module _ (s : Settings) (m : Machine) (frame memory reply : List ℕ) (f : Field
   -- what is kept and sent, then what goes to memory, is what the machine does with the frame
   pub decided-leaves : {m′ : Machine} {answer : Written} {memory′ reply′ : List ℕ}
       → Leaves (gives (acts (keeps f frame next) memory (sending f frame memory (next .sends))) reply) m′ answer memory reply′
-      → memory′ ≡ pick (next .takes) (deposited (part frame f) (f .address) memory) memory
+      → memory′ ≡ pick (next .takes) (deposited (s .window) (part frame f) (f .address) memory) memory
       → Leaves (gives (react s m (fields frame) frame memory) reply) m′ answer memory′ reply′
   decided-leaves {m′} {answer} {memory′} {reply′} l e =
       subst (λ (act : Act Machine (List ℕ)). Leaves (gives act reply) m′ answer memory′ reply′) decided

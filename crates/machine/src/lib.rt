@@ -20,6 +20,7 @@ pub use machine_record::Machine;
 pub use machine_record::Settings;
 pub use machine_record::Stepped;
 use message::Fields;
+use window::Window;
 
 // Code 26: the frame's data again.
 fn looped(f: Fields, frame: &[u8], reply: &mut [u8]) -> Written
@@ -76,16 +77,16 @@ fn keep(machine: Machine, keeps: bool, f: Fields, frame: &[u8]) -> Machine
 }
 
 // The frame's data goes to memory if it is taken.
-fn store(takes: bool, f: Fields, frame: &[u8], memory: &mut [u8])
+fn store(takes: bool, window: Window, f: Fields, frame: &[u8], memory: &mut [u8])
     requires { ⌜ f .«data_at» + f .«data_length» ≤ length (now frame) ⌝ }
-    ensures { λ r. ⌜ now (memory .exit) ≡ cond takes (deposited (part (now (frame .entry)) f) (f .address) (now (memory .entry))) (now (memory .entry)) ⌝ }
+    ensures { λ r. ⌜ now (memory .exit) ≡ cond takes (deposited window (part (now (frame .entry)) f) (f .address) (now (memory .entry))) (now (memory .entry)) ⌝ }
 {
     if !takes {
         return;
     }
     let at = f.data_at;
     let end = at + f.data_length;
-    memory::deposit(&frame[at..end], f.address, memory);
+    memory::deposit(window, &frame[at..end], f.address, memory);
 }
 
 // A step on a frame.
@@ -110,6 +111,6 @@ pub fn frame(
     let sends = next.sends;
     let machine = keep(next.machine, next.keeps, f, frame);
     let stepped = send(machine, f, sends, frame, memory, reply);
-    store(next.takes, f, frame, memory);
+    store(next.takes, settings.window, f, frame, memory);
     stepped
 }

@@ -3,6 +3,7 @@ use Prim.Native.Nat.{ℕ}
 use mathlib.Core.List.{[], _∷_}
 use lib.Dec.{leb}
 use Rattle.step.specs.Step.{unless, first}
+use Rattle.window.specs.Window.{allowed}
 use Rattle.machine_record.specs.declared.Settings.{Settings}
 use Rattle.machine_record.specs.declared.Machine.{Machine}
 
@@ -13,6 +14,7 @@ refusal s m size room =
     (unless (leb size 16777216) 10 ∷
     unless (leb 1 (s .«reply_bytes»)) 10 ∷
     unless (leb (s .«reply_bytes») 1495) 10 ∷
+    unless (allowed (s .window)) 10 ∷
     unless (leb (m .state) 4) 10 ∷
     unless (leb 1500 room) 9 ∷
     [])

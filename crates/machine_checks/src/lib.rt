@@ -17,6 +17,9 @@ pub fn refusal(settings: Settings, machine: Machine, size: usize, room: usize) -
     if 1495 < settings.reply_bytes {
         return 10;
     }
+    if !window::allowed(settings.window) {
+        return 10;
+    }
     if 4 < machine.state {
         return 10;
     }

@@ -10,6 +10,7 @@ use Rattle.memory.specs.Memory.{fits, laid}
 use Rattle.message.specs.declared.Fields.{Fields}
 use Rattle.message.specs.Read.{part}
 use Rattle.machine_record.specs.declared.Machine.{Machine}
+use Rattle.machine_record.specs.declared.Settings.{Settings}
 use Rattle.machine_record.specs.Record.{started}
 use Rattle.machine_number.specs.Number.{heed}
 use Rattle.machine_next.specs.declared.Sends.the-variants.{Nothing, Load}
@@ -17,19 +18,19 @@ use Rattle.machine_next.specs.declared.Next.{Next}
 use Rattle.machine_next.specs.Next.{byNumber, takenAs, onLoad, onParameters, next, does}
 use Rattle.machine_next.specs.Inner.{taken, heeded}
 
-module _ (f : Fields) (frame memory : List ℕ) where
+module _ (s : Settings) (f : Fields) (frame memory : List ℕ) where
   -- a choice of decisions does what the chosen one does
-  pub chosen : (b : Bool) (x y : Next) → does f frame memory (pick b x y) ≡ pick b (does f frame memory x) (does f frame memory y)
+  pub chosen : (b : Bool) (x y : Next) → does s f frame memory (pick b x y) ≡ pick b (does s f frame memory x) (does s f frame memory y)
   chosen true x y = refl
   chosen false x y = refl
 
-  does-taken : (m : Machine) (number : ℕ) (fit : Bool) (fitted : Machine) → fits (f .address) (length (part frame f)) (length memory) ≡ fit
-      → does f frame memory (taken m number fit fitted false) ≡ takenAs (m .parameters) number fit fitted (laid (part frame f) (f .address) memory) memory
+  does-taken : (m : Machine) (number : ℕ) (fit : Bool) (fitted : Machine) → fits (s .window) (f .address) (length (part frame f)) (length memory) ≡ fit
+      → does s f frame memory (taken m number fit fitted false) ≡ takenAs (m .parameters) number fit fitted (laid (part frame f) (f .address) memory) memory
   does-taken m number true fitted e = rw e
   does-taken m number false fitted e = refl
 
   -- the number rule of a decision is the number rule of what it does
-  does-heeded : (m : Machine) (number : ℕ) (n : Next) → does f frame memory (heeded m number n) ≡ byNumber m number (does f frame memory n) memory
+  does-heeded : (m : Machine) (number : ℕ) (n : Next) → does s f frame memory (heeded m number n) ≡ byNumber m number (does s f frame memory n) memory
   unfolding byNumber
   does-heeded m number n =
       let again : Next = next m false false (Load (m .expected) (m .error)) in
@@ -37,14 +38,14 @@ module _ (f : Fields) (frame memory : List ℕ) where
       chosen (eqb (heed m number) 1) n (pick (eqb (heed m number) 2) again nothing) ∙ (rw (chosen (eqb (heed m number) 2) again nothing))
 
   pub does-load : (m : Machine) (number n size : ℕ) (fitted : Machine) → length (part frame f) ≡ n → length memory ≡ size
-      → does f frame memory (heeded m number (taken m number (fits (f .address) n size) fitted false)) ≡ onLoad m number (f .address) (part frame f) fitted memory
+      → does s f frame memory (heeded m number (taken m number (fits (s .window) (f .address) n size) fitted false)) ≡ onLoad s m number (f .address) (part frame f) fitted memory
   unfolding onLoad
   does-load m number n size fitted p q =
-      does-heeded m number (taken m number (fits (f .address) n size) fitted false)
-      ∙ (rw (does-taken m number (fits (f .address) n size) fitted (rw (p, q)), p, q))
+      does-heeded m number (taken m number (fits (s .window) (f .address) n size) fitted false)
+      ∙ (rw (does-taken m number (fits (s .window) (f .address) n size) fitted (rw (p, q)), p, q))
 
   pub does-parameters : (m : Machine) (number transfer : ℕ)
-      → does f frame memory (heeded m number (taken m number true (started (m .parameters) transfer) true)) ≡ onParameters m number (part frame f) transfer memory
+      → does s f frame memory (heeded m number (taken m number true (started (m .parameters) transfer) true)) ≡ onParameters m number (part frame f) transfer memory
   unfolding onParameters
   does-parameters m number transfer = does-heeded m number (taken m number true (started (m .parameters) transfer) true)
 

@@ -1,3 +1,4 @@
 pub mod Next
 pub mod Inner
 pub mod Laws
+pub mod ActedLaws

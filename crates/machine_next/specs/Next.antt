@@ -35,9 +35,10 @@ takenAs parameters number fit fitted laid memory =
 
 -- ---- a frame, by its code
 -- codes 0 and 2; `fitted` is the machine after a load that fits
-unfoldable pub onLoad : Machine → ℕ → ℕ → List ℕ → Machine → List ℕ → Act Machine (List ℕ)
-onLoad m number address bytes fitted memory =
-    byNumber m number (takenAs (m .parameters) number (fits address (length bytes) (length memory)) fitted (laid bytes address memory) memory) memory
+unfoldable pub onLoad : Settings → Machine → ℕ → ℕ → List ℕ → Machine → List ℕ → Act Machine (List ℕ)
+onLoad s m number address bytes fitted memory =
+    byNumber m number
+    (takenAs (m .parameters) number (fits (s .window) address (length bytes) (length memory)) fitted (laid bytes address memory) memory) memory
 
 -- code 20 always fits: it lays no bytes, and the machine is started and keeps what the entries say
 unfoldable pub onParameters : Machine → ℕ → List ℕ → ℕ → List ℕ → Act Machine (List ℕ)
@@ -60,8 +61,8 @@ onLoop m receipt bytes memory = pick (is 0 m) (acts m memory (sends (loopedData 
 
 abbrev pub react : Settings → Machine → Fields → List ℕ → List ℕ → Act Machine (List ℕ)
 react s m f frame memory =
-    pick (eqb (f .code) 0) (onLoad m (f .number) (f .address) (part frame f) (started (m .parameters) (f .transfer)) memory)
-    (pick (eqb (f .code) 2) (onLoad m (f .number) (f .address) (part frame f) (loading (m .parameters) (after (f .number)) 0) memory)
+    pick (eqb (f .code) 0) (onLoad s m (f .number) (f .address) (part frame f) (started (m .parameters) (f .transfer)) memory)
+    (pick (eqb (f .code) 2) (onLoad s m (f .number) (f .address) (part frame f) (loading (m .parameters) (after (f .number)) 0) memory)
     (pick (eqb (f .code) 20) (onParameters m (f .number) (part frame f) (f .transfer) memory)
     (pick (eqb (f .code) 4) (onDump s m (f .address) (f .count) memory)
     (pick (eqb (f .code) 1) (onComplete m memory)
@@ -84,6 +85,6 @@ abbrev pub keeps : Fields → List ℕ → Next → Machine
 keeps f frame n = pick (n .keeps) (keeping (n .machine) (kept (part frame f))) (n .machine)
 
 -- what the decision does: the frame's data goes to memory, where it fits, if it is taken; its entries go into the record, if they are kept
-abbrev pub does : Fields → List ℕ → List ℕ → Next → Act Machine (List ℕ)
-does f frame memory n =
-    acts (keeps f frame n) (pick (n .takes) (deposited (part frame f) (f .address) memory) memory) (sending f frame memory (n .sends))
+abbrev pub does : Settings → Fields → List ℕ → List ℕ → Next → Act Machine (List ℕ)
+does s f frame memory n =
+    acts (keeps f frame n) (pick (n .takes) (deposited (s .window) (part frame f) (f .address) memory) memory) (sending f frame memory (n .sends))

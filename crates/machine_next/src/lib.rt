@@ -127,12 +127,12 @@ fn on_loop(machine: Machine) -> Next
 // On a frame it decides by its code.
 pub fn react(settings: Settings, machine: Machine, f: Fields, size: usize) -> Next
     ensures { λ r. ⌜ ((frame memory : List ℕ) → length (part frame f) ≡ f .«data_length» → length memory ≡ size
-        → does f frame memory r ≡ react settings machine f frame memory) ⌝ }
+        → does settings f frame memory r ≡ react settings machine f frame memory) ⌝ }
 {
     let code = f.code;
     match code {
         0 => {
-            let fit = memory::fitting(f.address, f.data_length, size);
+            let fit = memory::fitting(settings.window, f.address, f.data_length, size);
             on_load(
                 machine,
                 f.number,
@@ -142,7 +142,7 @@ pub fn react(settings: Settings, machine: Machine, f: Fields, size: usize) -> Ne
             )
         }
         2 => {
-            let fit = memory::fitting(f.address, f.data_length, size);
+            let fit = memory::fitting(settings.window, f.address, f.data_length, size);
             on_load(
                 machine,
                 f.number,

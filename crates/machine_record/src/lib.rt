@@ -4,13 +4,15 @@ ghost use Rattle.buffer.specs.Lay.{refused};
 ghost use Rattle.machine_record.specs.Record.{inState, keeping};
 use buffer::Written;
 use parameters::Parameters;
+use window::Window;
 
-// Its settings: D, the most bytes of a dump reply; its device and processor.
+// Its settings: D, the most bytes of a dump reply; its device and processor; its ROM window.
 #[repr(C)]
 pub struct Settings {
     pub reply_bytes: u32,
     pub device: u8,
     pub processor: u8,
+    pub window: Window,
 }
 
 // Its state: 0 Idle, 1 Offering, 2 Requesting, 3 Loading, 4 Started; Loading's expected number and last reply's error,

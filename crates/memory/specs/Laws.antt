@@ -1,7 +1,7 @@
 -- What 'fits' means by addresses; each byte of memory with a load laid over it; the bytes of memory from an address on.
 use Prim.Native.Nat.{ℕ, zero, suc, _+_, _-_, _≤_, _<_, min}
 use mathlib.Core.Path.{_≡_, refl, ap, sym, subst, _∙_}
-use mathlib.Core.Bool.{Bool, true, false}
+use mathlib.Core.Bool.{Bool, true, false, not}
 use mathlib.Core.List.{List, _++_, append-assoc}
 use native.Mathlib.Omega.{arith}
 use native.Mathlib.Decide.{decLt}
@@ -9,27 +9,48 @@ use lib.ListN.{length, take, drop, getD, replicate, length-append, length-take, 
 use lib.Seq.{take-all, take-at, drop-at, take-append-le, take-append-add, length-take-le, drop-drop, getD-append-add, getD-take, getD-drop, ext-getD}
 use lib.Dec.{leb}
 use borrow.Author.Tests.{leb-true, leb-false, le-leb}
+use Rattle.octets.specs.TestLaws.{both}
+use Rattle.window.specs.declared.Window.{Window}
+use Rattle.window.specs.Window.{Lies, InWindow, touches}
+use Rattle.window.specs.Laws.{touch-both, both-touch}
 use Rattle.memory.specs.Memory.{fits, laid, bytesFrom}
 
 -- ---- what fits
-module _ (address n size : ℕ) where
-  -- A load that fits has every address in memory; one that has, and begins no later than memory's end, fits.
-  pub fits-addresses : fits address n size ≡ true → (x : ℕ) → x < n → address + x < size
-  unfolding fits
-  fits-addresses e x h = omega (arith, leb-true (address + n) size e)
+-- A load that fits ends no later than memory, and no address lies both in it and in the window; one of which that is so fits.
+pub fits-inside : (window : Window) (address n size : ℕ) → fits window address n size ≡ true → address + n ≤ size
+unfolding fits
+fits-inside window address n size e = leb-true (address + n) size (both (leb (address + n) size) _ e .0)
 
-  pub addresses-fit : address ≤ size → ((x : ℕ) → x < n → address + x < size) → fits address n size ≡ true
-  unfolding fits
-  addresses-fit h f = le-leb (address + n) size (room n f)
-    where
-      room : (k : ℕ) → ((x : ℕ) → x < k → address + x < size) → address + k ≤ size
-      room zero g = omega arith
-      room (suc k) g = omega (arith, g k (omega arith))
+pub fits-clear : (window : Window) (address n size : ℕ) → fits window address n size ≡ true → (a : ℕ) → InWindow window a → Lies address n a → ⊥
+unfolding fits
+fits-clear window address n size e a x y = no-touch (touches window address n) (both (leb (address + n) size) _ e .1) (both-touch window address n a x y)
+  where
+    no-touch : (t : Bool) → not t ≡ true → t ≡ true → ⊥
+    no-touch t f e = let z : _≡_ {A = ℕ} 0 1 = cc in omega arith
 
-  -- so it ends no later than memory
-  pub fits-inside : fits address n size ≡ true → address + n ≤ size
-  unfolding fits
-  fits-inside e = leb-true (address + n) size e
+pub clear-fits : (window : Window) (address n size : ℕ) → address + n ≤ size → ((a : ℕ) → InWindow window a → Lies address n a → ⊥)
+    → fits window address n size ≡ true
+unfolding fits
+clear-fits window address n size h f =
+    rw (le-leb (address + n) size h) (untouched (touches window address n) (λ t. let z = touch-both window address n t in f (z .0) (z .1) (z .2)))
+  where
+    untouched : (t : Bool) → (t ≡ true → ⊥) → not t ≡ true
+    untouched true g = absurd (g refl)
+    untouched false g = refl
+
+-- a load that fits fits in its front part, of no bytes too; and two that fit, one behind the other, fit together
+pub fits-front : (window : Window) (address n size : ℕ) → fits window address n size ≡ true → fits window address 0 size ≡ true
+fits-front window address n size e =
+    clear-fits window address 0 size (omega (arith, fits-inside window address n size e)) (λ a x y. omega arith)
+
+pub fits-joined : (window : Window) (address m n size : ℕ) → fits window address m size ≡ true → fits window (address + m) n size ≡ true
+    → fits window address (m + n) size ≡ true
+fits-joined window address m n size e f =
+    clear-fits window address (m + n) size (omega (arith, fits-inside window (address + m) n size f)) (λ a x y.
+    elim (decLt a (address + m)) [
+      | yes l ↦ fits-clear window address m size e a x (omega arith, l)
+      | no l ↦ fits-clear window (address + m) n size f a x (omega arith, omega arith)
+    ])
 
 -- ---- memory with bytes laid over it
 module _ (bytes : List ℕ) (address : ℕ) (memory : List ℕ) (h : address + length bytes ≤ length memory) where
@@ -78,6 +99,19 @@ module _ (bytes : List ℕ) (address : ℕ) (memory : List ℕ) (h : address + l
       let same : getD (drop end (laid bytes address memory)) (a - end) 0 ≡ getD (drop end memory) (a - end) 0 = ap (λ (m : List ℕ). getD m (a - end) 0) behind in
       let at : end + (a - end) ≡ a = omega arith in
       subst (λ (k : ℕ). getD (laid bytes address memory) k 0 ≡ getD memory k 0) at (simp getD-drop at same)
+
+-- a load that fits leaves the bytes of the window
+pub laid-outside : (window : Window) (bytes : List ℕ) (address : ℕ) (memory : List ℕ) → fits window address (length bytes) (length memory) ≡ true
+    → (a : ℕ) → InWindow window a → getD (laid bytes address memory) a 0 ≡ getD memory a 0
+laid-outside window bytes address memory e a x =
+    let inside = fits-inside window address (length bytes) (length memory) e in
+    elim (decLt a address) [
+      | yes l ↦ laid-before bytes address memory inside a l
+      | no l ↦ elim (decLt a (address + length bytes)) [
+        | yes m ↦ absurd (fits-clear window address (length bytes) (length memory) e a x (omega arith, m))
+        | no m ↦ laid-behind bytes address memory inside a (omega arith)
+      ]
+    ]
 
 -- bytes laid one behind the other are their joining laid over
 pub laid-joined : (a b : List ℕ) (address : ℕ) (memory : List ℕ) → address + length a + length b ≤ length memory

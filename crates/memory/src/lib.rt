@@ -8,10 +8,11 @@ ghost use Rattle.message.specs.Message.{dumpData};
 ghost use Rattle.message.specs.Write.{write};
 ghost use Rattle.memory.specs.Memory.{fits, deposited, bytesFrom};
 use buffer::Written;
+use window::Window;
 
-// A load of n bytes at an address fits a memory of this size.
-pub fn fitting(address: u32, n: usize, size: usize) -> bool
-    ensures { λ r. ⌜ r ≡ fits address n size ⌝ }
+// A load of n bytes at an address fits a machine with this ROM window and a memory of this size.
+pub fn fitting(window: Window, address: u32, n: usize, size: usize) -> bool
+    ensures { λ r. ⌜ r ≡ fits window address n size ⌝ }
 {
     let at = address as usize;
     if size < at {
@@ -20,15 +21,15 @@ pub fn fitting(address: u32, n: usize, size: usize) -> bool
     if size - at < n {
         return false;
     }
-    true
+    !window::touching(window, address, n)
 }
 
 // Image data goes to memory if it fits, and whether it does.
-pub fn deposit(bytes: &[u8], address: u32, memory: &mut [u8]) -> bool
-    ensures { λ r. ⌜ (r ≡ fits address (length (now (bytes .entry))) (length (now (memory .entry))))
-        × (now (memory .exit) ≡ deposited (now (bytes .entry)) address (now (memory .entry))) ⌝ }
+pub fn deposit(window: Window, bytes: &[u8], address: u32, memory: &mut [u8]) -> bool
+    ensures { λ r. ⌜ (r ≡ fits window address (length (now (bytes .entry))) (length (now (memory .entry))))
+        × (now (memory .exit) ≡ deposited window (now (bytes .entry)) address (now (memory .entry))) ⌝ }
 {
-    if !fitting(address, bytes.len(), memory.len()) {
+    if !fitting(window, address, bytes.len(), memory.len()) {
         return false;
     }
     buffer::put(bytes, memory, address as usize)

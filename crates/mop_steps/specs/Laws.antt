@@ -14,14 +14,14 @@ use Rattle.message.specs.Message.{Message, requestLoad, requestDump, dumpData, 
 use Rattle.message.specs.Read.{fields, part}
 use Rattle.message.specs.Write.{layout}
 use Rattle.message.specs.Laws.{begins}
-use Rattle.memory.specs.Memory.{fits, bytesFrom}
+use Rattle.memory.specs.Memory.{laid, bytesFrom}
 use Rattle.step.specs.Step.{Sending, nothing, sends, Act, first, acts, ignores, gives, call}
 use Rattle.machine_record.specs.declared.Settings.{Settings as MachineSettings}
 use Rattle.machine_record.specs.declared.Machine.{Machine}
 use Rattle.machine_record.specs.Record as machine
 use Rattle.machine_checks.specs.Checks as machineChecks
-use Rattle.machine_number.specs.Number as machineNumber
 use Rattle.machine_next.specs.Next as machineNext
+use Rattle.machine_next.specs.ActedLaws.{Acted, ignored, answered, loaded, dumped, completed, looped, react-acted}
 use Rattle.machine_timer.specs.Timer.{onTimer as onMachineTimer, machineTimer}
 use Rattle.machine.specs.Machine.{machineFrame}
 use Rattle.load_record.specs.declared.Settings.{Settings as LoadSettings}
@@ -190,38 +190,22 @@ module _ (s : MachineSettings) (m : Machine) (memory reply : List ℕ) where
   idles : M (ignores m memory)
   idles _ _ _ = refl
 
-  replies : (next : Machine) (after : List ℕ) (number error : ℕ) → M (acts next after (sends (requestLoad number error)))
-  unfolding layout
-  replies next after number error = sent-seen machineState m memory reply next after (requestLoad number error) (omega arith)
-
-  loaded : (number address : ℕ) (bytes : List ℕ) (fitted : Machine) → M (machineNext.onLoad m number address bytes fitted memory)
-  unfolding machineNext.onLoad machineNext.byNumber
-  loaded number address bytes fitted =
-      by-cases M (eqb (machineNumber.heed m number) 1) (λ _.
-      by-cases M (fits address (length bytes) (length memory)) (λ _. replies _ _ (machineNumber.after number) 0) (λ _. replies _ _ (machineNumber.after number) 1)) (λ _.
-      by-cases M (eqb (machineNumber.heed m number) 2) (λ _. replies m memory (m .expected) (m .error)) (λ _. idles))
-
-  given : (number : ℕ) (entries : List ℕ) (transfer : ℕ) → M (machineNext.onParameters m number entries transfer memory)
-  unfolding machineNext.onParameters machineNext.byNumber
-  given number entries transfer =
-      by-cases M (eqb (machineNumber.heed m number) 1) (λ _. replies _ _ (machineNumber.after number) 0) (λ _.
-      by-cases M (eqb (machineNumber.heed m number) 2) (λ _. replies m memory (m .expected) (m .error)) (λ _. idles))
-
   pub machine-frame-seen : (frame : List ℕ) → Seen machineState m memory reply (machineFrame s m frame memory reply)
   unfolding layout
   machine-frame-seen frame =
-      let f = fields frame in
-      let bytes = part frame f in
-      called machineState m memory reply (first (machineChecks.refusal s m (length memory) (length reply) ∷ f .refusal ∷ [])) (machineNext.react s m f frame memory)
-      (by-cases M (eqb (f .code) 0) (λ _. loaded (f .number) (f .address) bytes (machine.started (m .parameters) (f .transfer))) (λ _.
-      by-cases M (eqb (f .code) 2) (λ _. loaded (f .number) (f .address) bytes (machine.loading (m .parameters) (machineNumber.after (f .number)) 0)) (λ _.
-      by-cases M (eqb (f .code) 20) (λ _. given (f .number) bytes (f .transfer)) (λ _.
-      by-cases M (eqb (f .code) 4) (λ _.
-      by-cases M (machine.is 0 m || machine.is 1 m) (λ _. sent-seen machineState m memory reply m memory (dumpData (f .address) (bytesFrom memory (f .address) (min (f .count) (s .«reply_bytes»)))) (omega arith)) (λ _. idles)) (λ _.
-      by-cases M (eqb (f .code) 1) (λ _. by-cases M (machine.is 1 m) (λ v _ _ e. absurd (omega (arith, eqb-true (m .state) 1 v))) (λ _. idles)) (λ _.
-      by-cases M (eqb (f .code) 24) (λ _.
-      by-cases M (machine.is 0 m) (λ _. sent-seen machineState m memory reply m memory (loopedData (f .receipt) bytes) (omega arith)) (λ _. idles)) (λ _.
-      idles)))))))
+      called machineState m memory reply (first (machineChecks.refusal s m (length memory) (length reply) ∷ fields frame .refusal ∷ []))
+      (machineNext.react s m (fields frame) frame memory) (go _ (react-acted s m (fields frame) frame memory))
+    where
+      sent : (next : Machine) (after : List ℕ) (what : Message) → M (acts next after (sends what))
+      sent next after what = sent-seen machineState m memory reply next after what (begins what)
+
+      go : (act : Act Machine (List ℕ)) → Acted s m (fields frame) frame memory act → M act
+      go act ignored = idles
+      go act (answered m′ number error l) = sent m′ memory (requestLoad number error)
+      go act (loaded m′ number l e) = sent m′ (laid (part frame (fields frame)) (fields frame .address) memory) (requestLoad number 0)
+      go act (dumped l) = sent m memory (dumpData (fields frame .address) (bytesFrom memory (fields frame .address) (min (fields frame .count) (s .«reply_bytes»))))
+      go act (completed e) = λ _ _ q. absurd (omega arith)
+      go act (looped c e) = sent m memory (loopedData (fields frame .receipt) (part frame (fields frame)))
 
   pub machine-timer-seen : Seen machineState m memory reply (machineTimer s m memory reply)
   unfolding layout

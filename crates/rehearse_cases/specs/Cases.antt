@@ -6,6 +6,7 @@ use mathlib.Core.Path.{_≡_, refl}
 use mathlib.Core.List.{List, [], _∷_, _++_}
 use Rattle.bytes.specs.Bytes.{indexOf}
 use Rattle.octets.specs.Number.{number, low}
+use Rattle.window.specs.Window.{touches}
 use Rattle.memory.specs.Memory.{fits}
 use Rattle.message.specs.Read.{find, fields}
 use Rattle.message.specs.Write.{layout}
@@ -37,5 +38,5 @@ refused = refl
 pub worked : transcript (input "8 2 1" "0A0B0C0200000000000000030000000300000001000000020000001F000000" "txmhtht")
     ≡ chars
     "T 08000102FF00\nH 0200020000000A0B\nH 0200020000000A0B\nT 0A0100\nH 0001040000000C02000000\nT 0A0200\nEND 1 3 00000002 00000A0B0C000000\n"
-unfolding indexOf only areDigits value nibble hexadecimal trimmed digits pairs number low find fields layout first trailerOf entryOf entries demand entriesRefusal many segment fits byNumber onLoad lines
+unfolding indexOf only areDigits value nibble hexadecimal trimmed digits pairs number low find fields layout first trailerOf entryOf entries demand entriesRefusal many segment fits touches byNumber onLoad lines
 worked = refl

@@ -4,6 +4,7 @@ use mathlib.Core.Path.{_≡_, refl}
 use mathlib.Core.List.{List, []}
 use Rattle.bytes.specs.Bytes.{indexOf}
 use Rattle.octets.specs.Number.{number, low}
+use Rattle.window.specs.Window.{touches}
 use Rattle.memory.specs.Memory.{fits}
 use Rattle.message.specs.Read.{find, fields}
 use Rattle.message.specs.Write.{layout}
@@ -29,8 +30,8 @@ unfolding indexOf only areDigits value nibble hexadecimal demand trailerOf entry
 accepted = refl
 
 pub finished : ended worked .ends .session .verdict ≡ 1
-unfolding indexOf only areDigits value nibble hexadecimal number low find fields layout first trailerOf entryOf entries demand entriesRefusal many segment fits byNumber onLoad after
+unfolding indexOf only areDigits value nibble hexadecimal number low find fields layout first trailerOf entryOf entries demand entriesRefusal many segment fits touches byNumber onLoad after
 finished = refl
 
-pub worked-loaded : Loaded (settings worked .host) (image worked) [] (zeros worked) (worldAtEnd worked .machine)
+pub worked-loaded : Loaded (settings worked .host) (settings worked .machine) (image worked) [] (zeros worked) (worldAtEnd worked .machine)
 worked-loaded = loaded worked accepted finished

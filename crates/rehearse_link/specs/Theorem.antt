@@ -53,12 +53,12 @@ module _ (input : List ℕ) (a : Accepted input) where
         (rw (eq-eqb (asked input .job .refusal) 0 a)) ∙ ap (λ (l : List ℕ). beginLine t ++ l) (x .1) ∙ sym (append-assoc (beginLine t) (x .0) (endLine (ended input .ends) (ended input .memory))),
       )
 
-  pub reported : Report (settings input .host) (image input) [] (zeros input) (worldAtEnd input)
+  pub reported : Report (settings input .host) (settings input .machine) (image input) [] (zeros input) (worldAtEnd input)
   reported =
-      subst (Report (settings input .host) (image input) [] (zeros input)) linked
+      subst (Report (settings input .host) (settings input .machine) (image input) [] (zeros input)) linked
       (bounded-load (settings input .host) (settings input .machine) (image input) [] (zeros input) (accepted .image) (accepted .octets) (no-string (settings input .host)) 16 (events input))
 
-  pub loaded : ended input .ends .session .verdict ≡ 1 → Loaded (settings input .host) (image input) [] (zeros input) (worldAtEnd input .machine)
+  pub loaded : ended input .ends .session .verdict ≡ 1 → Loaded (settings input .host) (settings input .machine) (image input) [] (zeros input) (worldAtEnd input .machine)
   loaded e =
-      subst (λ (w : World Session End). w .host .verdict ≡ 1 → Loaded (settings input .host) (image input) [] (zeros input) (w .machine)) linked
+      subst (λ (w : World Session End). w .host .verdict ≡ 1 → Loaded (settings input .host) (settings input .machine) (image input) [] (zeros input) (w .machine)) linked
       (bounded-finished (settings input .host) (settings input .machine) (image input) [] (zeros input) (accepted .image) (accepted .octets) (no-string (settings input .host)) 16 (events input)) e

@@ -17,14 +17,13 @@ use Rattle.directory.specs.Directory.{regions, bytes, trailer}
 use Rattle.image.specs.Image.{parts, segment, segmentOf, widest}
 use Rattle.entries_next.specs.Next.{next as next-place}
 use Rattle.entries.specs.Entries.{walk}
-use Rattle.memory.specs.Memory.{fits}
 use Rattle.step.specs.Step.{Sending, nothing, sends, Act, Outcome, first, call, frameCall, told, gives}
 use Rattle.step.specs.Laws.{none}
 use Rattle.machine_record.specs.declared.Machine.{Machine}
 use Rattle.machine_record.specs.declared.Settings.{Settings as MachineSettings}
 use Rattle.machine_record.specs.Record.{is}
-use Rattle.machine_number.specs.Number.{heed}
-use Rattle.machine_next.specs.Next.{byNumber, onLoad, onParameters, react}
+use Rattle.machine_next.specs.Next.{react}
+use Rattle.machine_next.specs.ActedLaws.{Acted, ignored, answered, loaded, dumped, completed, looped, react-acted}
 use Rattle.machine_timer.specs.Timer.{onTimer}
 use Rattle.load_record.specs.declared.Settings.{Settings as LoadSettings}
 use Rattle.load_record.specs.declared.Next.{Next}
@@ -85,29 +84,17 @@ unfoldable pub Runs : Act Machine (List ℕ) → Type 0
 Runs a = (2 ≤ a .end .state) × Short (a .sending)
 
 module _ (s : MachineSettings) (m : Machine) (memory : List ℕ) (l : 2 ≤ m .state) where
-  on-load : (number address : ℕ) (bytes : List ℕ) (fitted : Machine) → 2 ≤ fitted .state → Runs (onLoad m number address bytes fitted memory)
-  unfolding onLoad byNumber layout Runs
-  on-load number address bytes fitted h =
-      by-cases Runs (eqb (heed m number) 1) (λ _.
-      by-cases Runs (fits address (length bytes) (length memory)) (λ _. (h, omega arith)) (λ _. (omega arith, omega arith))) (λ _.
-      by-cases Runs (eqb (heed m number) 2) (λ _. (l, omega arith)) (λ _. (l, tt)))
-
-  on-parameters : (number : ℕ) (entries : List ℕ) (transfer : ℕ) → Runs (onParameters m number entries transfer memory)
-  unfolding onParameters byNumber layout Runs
-  on-parameters number entries transfer =
-      by-cases Runs (eqb (heed m number) 1) (λ _. (omega arith, omega arith)) (λ _. by-cases Runs (eqb (heed m number) 2) (λ _. (l, omega arith)) (λ _. (l, tt)))
-
   pub machine-runs : (f : Fields) (frame : List ℕ) → Runs (react s m f frame memory)
-  unfolding Runs
-  machine-runs f frame =
-      let no0 = ne-eqb (m .state) 0 (omega arith) in
-      let no1 = ne-eqb (m .state) 1 (omega arith) in
-      by-cases Runs (eqb (f .code) 0) (λ _. on-load (f .number) (f .address) (part frame f) _ (omega arith)) (λ _.
-      by-cases Runs (eqb (f .code) 2) (λ _. on-load (f .number) (f .address) (part frame f) _ (omega arith)) (λ _.
-      by-cases Runs (eqb (f .code) 20) (λ _. on-parameters (f .number) (part frame f) (f .transfer)) (λ _.
-      by-cases Runs (eqb (f .code) 4) (λ _. rw (no0, no1) (l, tt)) (λ _.
-      by-cases Runs (eqb (f .code) 1) (λ _. rw no1 (l, tt)) (λ _.
-      by-cases Runs (eqb (f .code) 24) (λ _. rw no0 (l, tt)) (λ _. (l, tt)))))))
+  unfolding layout Runs
+  machine-runs f frame = go _ (react-acted s m f frame memory)
+    where
+      go : (act : Act Machine (List ℕ)) → Acted s m f frame memory act → Runs act
+      go act ignored = (l, tt)
+      go act (answered m′ number error h) = (h l, omega arith)
+      go act (loaded m′ number h e) = (h, omega arith)
+      go act (dumped h) = absurd (omega arith)
+      go act (completed e) = absurd (omega arith)
+      go act (looped c e) = absurd (omega arith)
 
   pub timer-runs : Runs (onTimer s m memory)
   unfolding Runs layout

@@ -152,10 +152,10 @@ impl Compare {
             room: ROOM,
             wanted: refusal,
         };
-        let (expected, bytes) = windowed(store, at, |store, reply| {
+        let (expected, bytes) = excerpt(store, at, |store, reply| {
             in_c(&case, end.plain(record, event, store, reply))
         });
-        let (seen, seen_bytes) = windowed(store, at, |store, reply| {
+        let (seen, seen_bytes) = excerpt(store, at, |store, reply| {
             end.proved(record, event, store, reply)
         });
         let right = expected.answer.refusal == refusal;
@@ -197,17 +197,17 @@ impl Compare {
 
 /// Makes a call, and gives with its answer the reply buffer and the store's
 /// bytes from `at` on, which are then put back.
-fn windowed<R>(
+fn excerpt<R>(
     store: &mut [u8],
     at: usize,
     call: impl FnOnce(&mut [u8], &mut [u8]) -> Step<R>,
 ) -> (Step<R>, Vec<u8>) {
-    let window = at..store.len().min(at + 2000);
-    let before = store[window.clone()].to_vec();
+    let part = at..store.len().min(at + 2000);
+    let before = store[part.clone()].to_vec();
     let mut reply = vec![0xA5; ROOM];
     let step = call(store, &mut reply);
-    reply.extend_from_slice(&store[window.clone()]);
-    store[window].copy_from_slice(&before);
+    reply.extend_from_slice(&store[part.clone()]);
+    store[part].copy_from_slice(&before);
     (step, reply)
 }
 

@@ -8,7 +8,7 @@ use mop_plain::dump::{self, Progress, Session};
 use mop_plain::step::Sent;
 use mop_proved::{DumpSettings, Step, Written};
 
-const ADDRESS_END: u64 = 1 << 32;
+pub const ADDRESS_END: u64 = 1 << 32;
 
 #[derive(Clone, Copy, Debug)]
 pub struct Dump {

@@ -1,6 +1,7 @@
 //! Compares the machine's steps.
 
 use super::machine_parameters::OLD;
+use super::machine_windows::{REFUSED, place_of, window, with_window};
 use super::{Case, End, Event, ROOM, first, frames, room_refusal};
 use crate::Compare;
 use crate::make;
@@ -8,7 +9,7 @@ use crate::tally::Hex;
 use mop_plain::entries::{self, Kept};
 use mop_plain::machine::{self, State};
 use mop_plain::step::Sent;
-use mop_proved::{MachineSettings, Parameters, Step, Value};
+use mop_proved::{MachineSettings, Parameters, Step, Value, Window};
 
 const MEMORY_MOST: usize = 16_777_216;
 
@@ -47,6 +48,7 @@ impl End for Machine {
             dump_most: self.settings.reply_bytes,
             device: self.settings.device,
             processor: self.settings.processor,
+            window: plain_window(self.settings.window),
         };
         let mut machine = machine::Machine {
             state: State::from_numbers(
@@ -139,6 +141,13 @@ fn numbers(machine: machine::Machine) -> mop_proved::Machine {
     keeping(numbers, proved_kept(machine.kept))
 }
 
+fn plain_window(window: Window) -> machine::Window {
+    machine::Window {
+        start: window.start,
+        length: window.length,
+    }
+}
+
 fn proved_kept(kept: Kept) -> Parameters {
     let value = |value: entries::Value| Value {
         length: value.length,
@@ -205,6 +214,7 @@ impl Compare {
         self.machine_rooms();
         self.machine_states();
         self.machine_parameters();
+        self.machine_windows();
         for _ in 0..60_000 {
             self.any_machine_step();
         }
@@ -218,6 +228,7 @@ impl Compare {
                 reply_bytes: self.random.pick(&[1, 2, 4, 20, 1494, 1495, any]),
                 device: self.random.u8(),
                 processor: self.random.u8(),
+                window: self.window_about((2, 6), 16),
             },
             purpose: self.random.pick(&[Purpose::Load, Purpose::Dump]),
         }
@@ -238,13 +249,6 @@ impl Compare {
 
     /// Paper 01's K7, K8, K9 and K12, and what its text says outright.
     fn machine_set_cases(&mut self) {
-        let end = Machine {
-            settings: MachineSettings {
-                reply_bytes: 4,
-                ..Default::default()
-            },
-            purpose: Purpose::Load,
-        };
         let (idle, offering, requesting) = (state(IDLE), state(OFFERING), state(REQUESTING));
         let load = |number, address| frames::load(number, address, &[7, 8], None);
         let last = |number, address| frames::load(number, address, &[7, 8], Some(5));
@@ -281,21 +285,25 @@ impl Compare {
             (idle, vec![24, 1, 2, 3], idle, &[26, 1, 2, 3], old),
             (offering, vec![24, 1, 2, 3], offering, none, old),
         ];
-        for (before, frame, after, reply, memory) in cases {
-            let event = Event::Frame(Hex(&frame));
-            let reply = Some(reply).filter(|reply| !reply.is_empty());
-            self.set_case(&end, before, event, &old, (after, reply, &memory));
-            // Parameters stay whatever these frames do.
-            let [before, after] = [before, after].map(|record| keeping(record, OLD));
-            self.set_case(&end, before, event, &old, (after, reply, &memory));
+        // The windows change nothing here.
+        for end in [(0, 0), (7, 0), (8, 1), (9, 7)].map(with_window) {
+            for (before, frame, after, reply, memory) in &cases {
+                let event = Event::Frame(Hex(frame));
+                let reply = Some(*reply).filter(|reply| !reply.is_empty());
+                // Parameters stay whatever these frames do.
+                for kept in [Parameters::default(), OLD] {
+                    let [before, after] = [before, after].map(|record| keeping(*record, kept));
+                    self.set_case(&end, before, event, &old, (after, reply, memory));
+                }
+            }
         }
     }
 
     /// Every number against every expected number.
     fn machine_numbers(&mut self) {
-        let end = self.good_machine();
         let mut memory = self.random.bytes(16);
         for expected in 0..=255 {
+            let end = self.good_machine();
             for number in 0..=255 {
                 let address = self.random.range(0, 16) as u32;
                 let data = self.random.bytes(2);
@@ -354,6 +362,7 @@ impl Compare {
         let mut end = self.good_machine();
         let mut record = self.any_state();
         let frame = self.frame_for_machine(record.expected, end.settings.reply_bytes, memory.len());
+        end.settings.window = self.window_about(place_of(&frame), memory.len());
         let event = match self.random.below(10) {
             0 => Event::Start,
             1 | 2 => Event::Timer,
@@ -368,12 +377,7 @@ impl Compare {
         let mut early = 0;
         if self.faulty() {
             early = 10;
-            if matches!(event, Event::Start) || self.random.once_in(2) {
-                let bad = [0, 1496, 65_536, 65_537, 1 << 31, u32::MAX];
-                end.settings.reply_bytes = self.random.pick(&bad);
-            } else {
-                record.state = self.number_from(5);
-            }
+            self.spoil(&mut end.settings, &mut record, event);
         }
         let room = self.any_reply_room();
         let case = Case {
@@ -385,6 +389,24 @@ impl Compare {
             wanted: first(&[early, room_refusal(room), event.refusal()]),
         };
         self.step(case, &mut memory);
+    }
+
+    /// Puts D, the window or, where there is one, the state out of its range.
+    fn spoil(
+        &mut self,
+        settings: &mut MachineSettings,
+        record: &mut mop_proved::Machine,
+        event: Event,
+    ) {
+        let parts = if matches!(event, Event::Start) { 2 } else { 3 };
+        match self.random.below(parts) {
+            0 => {
+                let bad = [0, 1496, 65_536, 65_537, 1 << 31, u32::MAX];
+                settings.reply_bytes = self.random.pick(&bad);
+            }
+            1 => settings.window = window(self.random.pick(&REFUSED)),
+            _ => record.state = self.number_from(5),
+        }
     }
 
     fn any_memory(&mut self) -> Vec<u8> {
@@ -459,11 +481,12 @@ impl Compare {
     fn large_memories(&mut self) {
         for length in [MEMORY_MOST - 1, MEMORY_MOST, MEMORY_MOST + 1] {
             let mut memory = vec![3; length];
-            let end = Machine {
+            let mut end = Machine {
                 purpose: Purpose::Dump,
                 ..self.good_machine()
             };
             let top = length as u32;
+            end.settings.window = self.window_about((u64::from(top) - 2, 2), length);
             let fits = frames::load(0, top - 2, &[1, 2], None);
             let not = frames::load(0, top - 1, &[1, 2], None);
             let dump = frames::request_dump(top - 3, 9);

@@ -10,9 +10,11 @@ mod load_parameters;
 mod looping;
 mod machine;
 mod machine_parameters;
+mod machine_windows;
 mod runs;
 mod seen;
 mod strings;
+mod window_runs;
 
 use std::fmt::{self, Debug};
 
@@ -132,6 +134,9 @@ pub struct Outcome<R> {
     pub frame: Option<Vec<u8>>,
 }
 
+/// The record, frame and store that a call is to give.
+type Known<'a, R> = (R, Option<&'a [u8]>, &'a [u8]);
+
 /// The buffers of a call, each between margins.
 #[derive(Clone, PartialEq)]
 struct Lent {
@@ -167,6 +172,7 @@ impl Compare {
         self.dump_steps();
         self.set_run();
         self.load_runs();
+        self.window_runs();
         self.dump_runs();
         self.all_loops();
         self.ends_beyond_32_bits();
@@ -252,10 +258,23 @@ impl Compare {
         record: E::Record,
         event: Event,
         store: &[u8],
-        wanted: (E::Record, Option<&[u8]>, &[u8]),
+        wanted: Known<E::Record>,
+    ) {
+        self.known_case("set cases", end, record, event, store, wanted);
+    }
+
+    /// The same for a case of another kind.
+    fn known_case<E: End>(
+        &mut self,
+        kind: &'static str,
+        end: &E,
+        record: E::Record,
+        event: Event,
+        store: &[u8],
+        wanted: Known<E::Record>,
     ) {
         let case = Case {
-            kind: "set cases",
+            kind,
             end,
             record,
             event,
@@ -270,7 +289,7 @@ impl Compare {
         } = self.step(case, &mut store);
         let seen = (after, frame.as_deref(), &store[..]);
         if seen != wanted {
-            let what = format_args!("plain {}, set case", E::NAME);
+            let what = format_args!("plain {}, {kind}", E::NAME);
             self.report(what, (end, record, event), seen, wanted);
         }
     }

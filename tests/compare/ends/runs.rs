@@ -4,13 +4,14 @@ use super::dump::{Dump, sent_most};
 use super::link::{Link, Mix, Side};
 use super::load::{EXAMPLE_SETTINGS, Load, example};
 use super::machine::{Machine, Purpose, STARTED};
+use super::machine_windows::touches;
 use super::seen::WITH_PARAMETERS;
 use super::strings::kept;
 use super::{End, ROOM};
 use crate::Compare;
 use crate::images::{Region, build};
 use crate::tally::Hex;
-use mop_proved::{DumpSettings, LoadSettings, MachineSettings, Parameters};
+use mop_proved::{DumpSettings, LoadSettings, MachineSettings, Parameters, Window};
 
 /// Events after a verdict, to see that it stays.
 const AFTER_VERDICT: usize = 20;
@@ -19,7 +20,7 @@ const CLAIM_EVERY: u64 = 16;
 /// A call on the side is made after one event in so many.
 const PROBE_EVERY: u64 = 4;
 
-const CLEAN: Mix = Mix {
+pub const CLEAN: Mix = Mix {
     weights: [1, 0, 0, 1, 0, 0, 0, 0],
     short: 0,
 };
@@ -37,19 +38,24 @@ const SILENT: Mix = Mix {
 };
 
 /// An image in parts, and the machine that it goes to.
-struct Job {
+#[derive(Debug)]
+pub struct Job {
     file: Vec<u8>,
     /// Address and bytes of each segment.
     segments: Vec<(usize, Vec<u8>)>,
     transfer: u32,
     settings: LoadSettings,
     memory: Vec<u8>,
+    /// The machine's ROM window.
+    window: Window,
+    /// How many segments come before the first that does not fit.
+    fitting: usize,
     /// The entries of the parameter string, if there is one.
     entries: Option<Vec<Vec<u8>>>,
 }
 
 impl Job {
-    fn new(body: &[u8], regions: &[Region], settings: LoadSettings, memory: Vec<u8>) -> Job {
+    pub fn new(body: &[u8], regions: &[Region], settings: LoadSettings, memory: Vec<u8>) -> Job {
         const TRANSFER: u32 = 0x0102_0304;
         let mut segments = Vec::new();
         for region in regions {
@@ -60,18 +66,35 @@ impl Job {
                 address += part.len();
             }
         }
-        Job {
+        let job = Job {
             file: build(body, regions, TRANSFER),
             segments,
             transfer: TRANSFER,
             settings,
             memory,
+            window: Window::default(),
+            fitting: 0,
             entries: None,
+        };
+        job.with_window(Window::default())
+    }
+
+    /// The same with a ROM window.
+    pub fn with_window(self, window: Window) -> Job {
+        let fits = |(address, bytes): &&(usize, Vec<u8>)| {
+            let inside = address + bytes.len() <= self.memory.len();
+            inside && !touches(window, *address as u64, bytes.len())
+        };
+        let fitting = self.segments.iter().take_while(fits).count();
+        Job {
+            window,
+            fitting,
+            ..self
         }
     }
 
     /// The same with a parameter string at its end.
-    fn ending_with(self, entries: Vec<Vec<u8>>) -> Job {
+    pub fn ending_with(self, entries: Vec<Vec<u8>>) -> Job {
         Job {
             settings: LoadSettings {
                 with_parameters: 1,
@@ -83,8 +106,22 @@ impl Job {
     }
 
     /// n, the number of frames.
-    fn frames(&self) -> usize {
+    pub fn frames(&self) -> usize {
         self.segments.len() + usize::from(self.entries.is_some())
+    }
+
+    /// A segment's address and length.
+    pub fn place(&self, index: usize) -> (u64, u64) {
+        let (address, bytes) = &self.segments[index];
+        (*address as u64, bytes.len() as u64)
+    }
+
+    /// The verdict and position if nothing is lost.
+    pub fn outcome(&self) -> (u8, usize) {
+        match self.fitting < self.segments.len() {
+            true => (2, self.fitting),
+            false => (1, self.frames()),
+        }
     }
 
     /// PROTOCOL 6's claim of a load, after any list of events.
@@ -95,6 +132,9 @@ impl Job {
         let taken = link.taken_from_host();
         if record.sent != taken || taken > most {
             return Err(format!("{taken} sent, at most {most}"));
+        }
+        if self.in_window(&link.memory) != self.in_window(&self.memory) {
+            return Err("the window's bytes are the old ones".to_string());
         }
         let position = record.position as usize;
         let holds = match (record.waiting, record.verdict) {
@@ -114,16 +154,13 @@ impl Job {
     /// it, all of which fit, and the machine has started exactly if they are
     /// all; then it keeps what the string says, and before nothing.
     fn first_are_in(&self, count: usize, link: &Link<Load>) -> bool {
-        if count > self.frames() {
+        let segments = self.segments.iter().take(count);
+        if count > self.frames() || segments.len() > self.fitting {
             return false;
         }
-        let segments = self.segments.iter().take(count);
         let mut memory = self.memory.clone();
         for (address, bytes) in segments {
-            match memory.get_mut(*address..address + bytes.len()) {
-                Some(place) => place.copy_from_slice(bytes),
-                None => return false,
-            }
+            memory[*address..][..bytes.len()].copy_from_slice(bytes);
         }
         let started = link.state.state == STARTED && link.state.transfer == self.transfer;
         let (right, wanted) = match count == self.frames() {
@@ -131,6 +168,12 @@ impl Job {
             false => (link.state.state != STARTED, Parameters::default()),
         };
         right && memory == link.memory && link.state.parameters == wanted
+    }
+
+    /// The window's bytes, as far as they are in memory.
+    fn in_window<'a>(&self, memory: &'a [u8]) -> &'a [u8] {
+        let rest = memory.get(self.window.start as usize..).unwrap_or_default();
+        &rest[..rest.len().min(self.window.length as usize)]
     }
 
     /// What the string says.
@@ -246,8 +289,9 @@ impl Compare {
     }
 
     pub fn load_runs(&mut self) {
-        for _ in 0..2500 {
+        for _ in 0..3000 {
             let job = self.any_job();
+            let job = self.perhaps_with_window(job);
             let job = self.perhaps_with_parameters(job);
             let mix = self.any_mix();
             let events = self.random.range(0, 30 + 12 * job.frames());
@@ -283,14 +327,27 @@ impl Compare {
         }
     }
 
-    fn load_run(&mut self, job: &Job, mix: Mix, events: usize) {
+    /// The job, or one time in three the same with a window about the ends of
+    /// a segment.
+    fn perhaps_with_window(&mut self, job: Job) -> Job {
+        let index = self.random.range(0, job.segments.len() - 1);
+        let window = self.window_about(job.place(index), job.memory.len());
+        match self.random.once_in(3) {
+            true => job.with_window(window),
+            false => job,
+        }
+    }
+
+    /// A run of a load; gives the host's record.
+    pub fn load_run(&mut self, job: &Job, mix: Mix, events: usize) -> mop_proved::Load {
         let string = job.entries.as_ref().map(|entries| entries.concat());
         let host = Load {
             settings: job.settings,
             file: Hex(&job.file),
             parameters: Hex(string.as_deref().unwrap_or_default()),
         };
-        let machine = loadable(self.random.u8(), self.random.u8());
+        let mut machine = loadable(self.random.u8(), self.random.u8());
+        machine.settings.window = job.window;
         let link = Link::new(self, &host, &machine, &job.memory, &[]);
         let record = self.drive(link, mix, events, |link| job.claim(link));
         let name = match string {
@@ -299,6 +356,7 @@ impl Compare {
         };
         let (verdict, position) = (record.verdict, record.position);
         self.tally.ends.run(name, verdict, position);
+        record
     }
 
     /// A few regions, mostly inside memory, in a few segments.
@@ -334,7 +392,7 @@ impl Compare {
     }
 
     /// One region in this many segments, which all fit, or all but the last.
-    fn long_job(&mut self, count: usize) -> Job {
+    pub fn long_job(&mut self, count: usize) -> Job {
         let size = self.random.range(1, 3);
         let length = count * size - self.random.range(0, size - 1);
         let body = self.random.bytes(length);
@@ -389,9 +447,11 @@ impl Compare {
                 repeats: self.random.pick(&[0, 1, 2, 3, 255, 255]),
             },
         };
+        let range = (host.settings.address.into(), length as u64);
         let machine = Machine {
             settings: MachineSettings {
                 reply_bytes: bytes[1],
+                window: self.window_about(range, memory_length),
                 ..Default::default()
             },
             purpose: Purpose::Dump,
@@ -412,6 +472,7 @@ pub fn loadable(device: u8, processor: u8) -> Machine {
             reply_bytes: 1,
             device,
             processor,
+            ..Default::default()
         },
         purpose: Purpose::Load,
     }

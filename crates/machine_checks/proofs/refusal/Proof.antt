@@ -1,37 +1,55 @@
-use borrow.Author.Tests.{le-leb, lt-leb}
+use mathlib.Core.Path.{sym, _∙_}
+use native.Mathlib.Omega.{arith}
+use borrow.Author.Tests.{le-leb, lt-leb, not-true, not-false}
 use Rattle.step.specs.Step.{first}
+use Rattle.machine_checks.specs.Laws.{sized}
+use borrow.Author.Needs.{needs}
 use Rattle.machine_checks.proofs.refusal.Statement.{statement}
 use Rattle.machine_checks.proofs.refusal.Tie as tie
 
 returns : tie.Need-returns
 unfolding first
-returns c = rw (lt-leb _ _ (c .if1 .taken))
+returns c =
+    let a = c .before .args in rw (lt-leb (a .size) 16777216 (omega arith))
 
 returns-2 : tie.Need-returns-2
 unfolding first
-returns-2 c = rw (le-leb _ _ (c .before .before .if1 .left), lt-leb _ _ (c .if2 .taken))
+returns-2 c =
+    let a = c .before .before .before .args in rw (le-leb (a .size) 16777216 (omega arith), lt-leb 1 (a .settings .«reply_bytes») (omega arith))
 
 returns-3 : tie.Need-returns-3
 unfolding first
-returns-3 c = rw (le-leb _ _ (c .before .before .before .before .if1 .left), le-leb _ _ (c .before .before .if2 .left), lt-leb _ _ (c .if3 .taken))
+returns-3 c =
+    let a = c .before .before .before .before .before .args in rw (le-leb (a .size) 16777216 (omega arith), le-leb 1 (a .settings .«reply_bytes») (omega arith), lt-leb (a .settings .«reply_bytes») 1495 (omega arith))
+
+allowed-requires : tie.Need-allowed-requires
+allowed-requires c κs = search needs
 
 returns-4 : tie.Need-returns-4
 unfolding first
 returns-4 c =
-    let k = c .before .before in
-    rw (le-leb _ _ (k .before .before .before .before .if1 .left), le-leb _ _ (k .before .before .if2 .left), le-leb _ _ (k .if3 .left), lt-leb _ _ (c .if4 .taken))
+    let a = c .before .before .before .before .before .before .before .args in
+    rw (sized (a .settings) (a .machine) (a .size) (a .room) (omega arith) (omega arith) (omega arith), sym (c .before .allowed .ensures) ∙ not-true _ (c .if4 .taken))
 
 returns-5 : tie.Need-returns-5
 unfolding first
 returns-5 c =
-    let k = c .before .before .before in
-    rw (le-leb _ _ (k .before .before .before .before .if1 .left), le-leb _ _ (k .before .before .if2 .left), le-leb _ _ (k .if3 .left), le-leb _ _ (c .before .if4 .left), lt-leb _ _ (c .if5 .taken))
+    let a = c .before .before .before .before .before .before .before .before .before .args in
+    rw (sized (a .settings) (a .machine) (a .size) (a .room) (omega arith) (omega arith) (omega arith), sym (c .before .before .before .allowed .ensures) ∙ not-false _ (c .before .before .if4 .left), lt-leb (a .machine .state) 4 (omega arith))
 
 returns-6 : tie.Need-returns-6
 unfolding first
 returns-6 c =
-    let k = c .before .before .before in
-    rw (le-leb _ _ (k .before .before .before .before .if1 .left), le-leb _ _ (k .before .before .if2 .left), le-leb _ _ (k .if3 .left), le-leb _ _ (c .before .if4 .left), le-leb _ _ (c .if5 .left))
+    let a = c .before .before .before .before .before .before .before .before .before .before .args in
+    rw (sized (a .settings) (a .machine) (a .size) (a .room) (omega arith) (omega arith) (omega arith), sym (c .before .before .before .before .allowed .ensures) ∙ not-false _ (c .before .before .before .if4 .left), le-leb (a .machine .state) 4 (omega arith), lt-leb 1500 (a .room) (omega arith))
+
+returns-7 : tie.Need-returns-7
+unfolding first
+returns-7 c =
+    let a = c .before .before .before .before .before .before .before .before .before .before .args in
+    rw (sized (a .settings) (a .machine) (a .size) (a .room) (omega arith) (omega arith) (omega arith), sym (c .before .before .before .before .allowed .ensures) ∙ not-false _ (c .before .before .before .if4 .left), le-leb (a .machine .state) 4 (omega arith), le-leb 1500 (a .room) (omega arith))
 
 pub refusal-spec : {M : Type 1} → statement M
-refusal-spec = tie.close (tie.spec returns returns-2 returns-3 returns-4 returns-5 returns-6)
+refusal-spec =
+    tie.close
+    (tie.spec returns returns-2 returns-3 allowed-requires returns-4 returns-5 returns-6 returns-7)

@@ -54,42 +54,42 @@ returns : tie.Need-returns
 returns c =
     let a = c .before .before .before .before .args in
     let made = rw (c .before .before .fitting .ensures, c .before .in-state .ensures) at (c .on-load .ensures) in
-    λ frame memory p q. rw (eq-eqb _ _ (c .before .before .before .match .keys1), made) (does-load (a .f) frame memory (a .machine) (a .f .number) (a .f .«data_length») (a .size) (started (a .machine .parameters) (a .f .transfer)) p q)
+    λ frame memory p q. rw (eq-eqb _ _ (c .before .before .before .match .keys1), made) (does-load (a .settings) (a .f) frame memory (a .machine) (a .f .number) (a .f .«data_length») (a .size) (started (a .machine .parameters) (a .f .transfer)) p q)
 
 returns-2 : tie.Need-returns-2
 returns-2 c =
     let a = c .before .before .before .before .before .args in
     let made = rw (c .before .before .before .fitting2 .ensures, c .before .in-state2 .ensures, c .before .before .after .ensures) at (c .on-load2 .ensures) in
     λ frame memory p q. rw (ne-eqb (a .f .code) 0 (omega arith), eq-eqb _ _ (c .before .before .before .before .match .keys2), made)
-    (does-load (a .f) frame memory (a .machine) (a .f .number) (a .f .«data_length») (a .size) (loading (a .machine .parameters) (after (a .f .number)) 0) p q)
+    (does-load (a .settings) (a .f) frame memory (a .machine) (a .f .number) (a .f .«data_length») (a .size) (loading (a .machine .parameters) (after (a .f .number)) 0) p q)
 
 returns-3 : tie.Need-returns-3
 returns-3 c =
     let a = c .before .before .before .args in
     let made = rw (c .before .in-state3 .ensures) at (c .on-load3 .ensures) in
     λ frame memory p q. rw (ne-eqb (a .f .code) 0 (omega arith), ne-eqb (a .f .code) 2 (omega arith), eq-eqb _ _ (c .before .before .match .keys3), made)
-    (does-parameters (a .f) frame memory (a .machine) (a .f .number) (a .f .transfer))
+    (does-parameters (a .settings) (a .f) frame memory (a .machine) (a .f .number) (a .f .transfer))
 
 returns-4 : tie.Need-returns-4
 returns-4 c =
     let a = c .before .before .args in
     let m = a .machine in
     λ frame memory p q. rw (ne-eqb (a .f .code) 0 (omega arith), ne-eqb (a .f .code) 2 (omega arith), ne-eqb (a .f .code) 20 (omega arith), eq-eqb _ _ (c .before .match .keys4), c .on-dump .ensures)
-    (chosen (a .f) frame memory (is 0 m || is 1 m) (next m false false (Data (min (a .f .count) (a .settings .«reply_bytes»)))) (next m false false Nothing))
+    (chosen (a .settings) (a .f) frame memory (is 0 m || is 1 m) (next m false false (Data (min (a .f .count) (a .settings .«reply_bytes»)))) (next m false false Nothing))
 
 returns-5 : tie.Need-returns-5
 returns-5 c =
     let a = c .before .before .args in
     let m = a .machine in
     λ frame memory p q. rw (ne-eqb (a .f .code) 0 (omega arith), ne-eqb (a .f .code) 2 (omega arith), ne-eqb (a .f .code) 20 (omega arith), ne-eqb (a .f .code) 4 (omega arith), eq-eqb _ _ (c .before .match .keys5), c .on-complete .ensures)
-    (chosen (a .f) frame memory (is 1 m) (next (idle (m .parameters)) false false Nothing) (next m false false Nothing))
+    (chosen (a .settings) (a .f) frame memory (is 1 m) (next (idle (m .parameters)) false false Nothing) (next m false false Nothing))
 
 returns-6 : tie.Need-returns-6
 returns-6 c =
     let a = c .before .before .args in
     let m = a .machine in
     λ frame memory p q. rw (ne-eqb (a .f .code) 0 (omega arith), ne-eqb (a .f .code) 2 (omega arith), ne-eqb (a .f .code) 20 (omega arith), ne-eqb (a .f .code) 4 (omega arith), ne-eqb (a .f .code) 1 (omega arith), eq-eqb _ _ (c .before .match .keys6), c .on-loop .ensures)
-    (chosen (a .f) frame memory (is 0 m) (next m false false Looped) (next m false false Nothing))
+    (chosen (a .settings) (a .f) frame memory (is 0 m) (next m false false Looped) (next m false false Nothing))
 
 returns-7 : tie.Need-returns-7
 returns-7 c =

@@ -1,0 +1,53 @@
+-- A load that touches the ROM window, run by computing: the image of the worked example, and a window of one byte at 4, where segment 1 goes.
+-- Its frame is handed over twice, and each answer has error 1.
+use Prim.Native.Nat.{ℕ}
+use mathlib.Core.Path.{_≡_, refl}
+use mathlib.Core.List.{List, [], _∷_}
+use native.Mathlib.Omega.{arith}
+use lib.ListN.{replicate}
+use Rattle.octets.specs.Number.{number, low}
+use Rattle.window.specs.Window.{touches}
+use Rattle.memory.specs.Memory.{fits}
+use Rattle.message.specs.Read.{find, fields}
+use Rattle.message.specs.Write.{layout}
+use Rattle.step.specs.Step.{first}
+use Rattle.directory.specs.Directory.{trailerOf, entryOf, entries, demand, entriesRefusal}
+use Rattle.image.specs.Image.{many, segment}
+use Rattle.parameters.specs.Parameters.{none}
+use Rattle.machine_record.specs.declared.Settings.{Settings as MachineSettings}
+use Rattle.machine_record.specs.Record.{loading}
+use Rattle.machine_next.specs.Next.{byNumber, onLoad}
+use Rattle.link.specs.Link.{Event, own, handToMachine, keepToMachine, handToHost, run}
+use Rattle.link_load.specs.Model.{loadEnds, freshWorld, after}
+use Rattle.link_load.specs.Audit.{clear-load}
+use Rattle.cases.specs.LoadExample.{image, loadSettings, accepted, bytes}
+
+abbrev pub machineSettings : MachineSettings
+machineSettings = record { «reply_bytes» = 1; device = 0; processor = 0; window = record { start = 4; length = 1 } }
+
+abbrev reply : List ℕ
+reply = replicate 1500 0
+
+-- t h t k h t
+unfoldable pub events : List (Event ⊥)
+events =
+    own (handToHost reply) ∷ own (handToMachine reply) ∷ own (handToHost reply) ∷ own (keepToMachine reply) ∷ own (handToMachine reply) ∷
+    own (handToHost reply) ∷ []
+
+-- what is left at the end: the load is rejected, segment 0 is in, the byte of the window is the old one, and the second answer is on its way
+pub worked : run (loadEnds loadSettings machineSettings image []) (freshWorld machineSettings (replicate 8 7)) events
+    ≡ record {
+      host = record { position = 1; sent = 2; repeats = 0; waiting = 0; verdict = 2 };
+      machine = record { machine = loading none 2 1; memory = 7 ∷ 7 ∷ 0x0A ∷ 0x0B ∷ 7 ∷ 7 ∷ 7 ∷ 7 ∷ [] };
+      toMachine = [];
+      toHost = (0x0A ∷ 0x02 ∷ 0x01 ∷ []) ∷ [];
+      taken = 2;
+    }
+unfolding image events run number low find fields layout first trailerOf entryOf entries demand entriesRefusal many segment fits touches byNumber onLoad
+worked = refl
+
+-- and no list of events whatever makes it finished, as address 4 lies in the window and in the image's region
+pub never-finished : (old : List ℕ) (es : List (Event ⊥)) → after loadSettings machineSettings image [] old es .host .verdict ≡ 1 → ⊥
+unfolding image number trailerOf entryOf entries
+never-finished old es e =
+    clear-load loadSettings machineSettings image [] old accepted bytes refl es e 0 (record { address = 2; place = 0; length = 3 }) refl 4 (omega arith, omega arith) (omega arith, omega arith)

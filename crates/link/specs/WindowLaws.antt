@@ -1,0 +1,61 @@
+-- The bytes of the machine's ROM window stay, whatever frames come: no host is assumed, and no order of frames.
+use Prim.Native.Nat.{ℕ}
+use mathlib.Core.Path.{_≡_, refl, _∙_}
+use mathlib.Core.List.{List, [], _∷_}
+use lib.ListN.{length}
+use Rattle.memory.specs.Memory.{laid, WindowKept}
+use Rattle.memory.specs.Laws.{fits-inside, length-laid, laid-outside}
+use Rattle.message.specs.declared.Fields.{Fields}
+use Rattle.message.specs.Read.{fields, part}
+use Rattle.step.specs.Step.{Act, acts}
+use Rattle.machine_record.specs.declared.Machine.{Machine}
+use Rattle.machine_record.specs.declared.Settings.{Settings}
+use Rattle.machine_next.specs.Next.{react}
+use Rattle.machine_next.specs.ActedLaws.{Acted, ignored, answered, loaded, dumped, completed, looped, react-acted}
+use Rattle.link.specs.Link.{Frame, Turn, refuses, acts as moves, Ends, World, machineTurn, hostTurn}
+use Rattle.link.specs.LinkLaws.{Closed}
+use Rattle.link.specs.CallLaws.{came}
+use Rattle.link.specs.ByteLaws.{same-byte}
+use Rattle.link.specs.MachineEnd.{End, endsWith}
+use Rattle.link.specs.MachineEndLaws.{on-frame, on-timer}
+
+-- one call on a frame
+module _ (ms : Settings) (m : Machine) (f : Fields) (frame memory : List ℕ) where
+  pub react-keeps : WindowKept (ms .window) memory (react ms m f frame memory .lent)
+  react-keeps = go _ (react-acted ms m f frame memory)
+    where
+      go : (act : Act Machine (List ℕ)) → Acted ms m f frame memory act → WindowKept (ms .window) memory (act .lent)
+      go act ignored = λ a x. refl
+      go act (answered m′ number error l) = λ a x. refl
+      go act (loaded m′ number l e) = λ a x.
+          let bytes = part frame f in
+          same-byte (laid bytes (f .address) memory) memory a (length-laid bytes (f .address) memory (fits-inside (ms .window) (f .address) (length bytes) (length memory) e))
+          (laid-outside (ms .window) bytes (f .address) memory e a x)
+      go act (dumped l) = λ a x. refl
+      go act (completed e) = λ a x. refl
+      go act (looped c e) = λ a x. refl
+
+-- every event, beside any host and any further events
+module _
+    {H X : Type 0} (ms : Settings) (frame : H → Frame → List ℕ → Turn H) (timer : H → List ℕ → Turn H) (more : World H End → X → World H End)
+    (old : List ℕ) where
+  abbrev pub Kept : World H End → Type 0
+  Kept w = WindowKept (ms .window) old (w .machine .memory)
+
+  on-host : (w : World H End) (rest : List Frame) (t : Turn H) → Kept w → Kept (hostTurn w rest t)
+  on-host w rest refuses k = k
+  on-host w rest (moves h out) k = k
+
+  pub window-closed : Closed (endsWith ms frame timer more) Kept
+  window-closed =
+      record {
+        keptM = λ w f q b e k.
+            came (λ (t : Turn End). Kept (machineTurn w (f ∷ q) t)) _ _ _ (on-frame ms (w .machine .machine) (w .machine .memory) b f) k
+            (λ a x. react-keeps ms (w .machine .machine) (fields f) f (w .machine .memory) a x ∙ k a x);
+        lostM = λ w q l k. k;
+        keptH = λ w f q b e k. on-host w (f ∷ q) (frame (w .host) f b) k;
+        lostH = λ w q l k. k;
+        timerH = λ w b k. on-host w (w .toHost) (timer (w .host) b) k;
+        timerM = λ w b k.
+            came (λ (t : Turn End). Kept (machineTurn w (w .toMachine) t)) _ _ _ (on-timer ms (w .machine .machine) (w .machine .memory) b) k k;
+      }
