@@ -1,13 +1,14 @@
 //! How long the proved library takes beside the plain implementation: the
-//! reader, the image check, the segment call, a load's step that sends, and a
-//! dump between two ends.
+//! reader, the image check, the segment call, a load's step that sends, a
+//! machine's step on a load, and a dump between two ends.
 //!
 //! Both get the same inputs in one run, in turns, and borrow what they read:
-//! neither allocates, and but for the load and the dump no buffer is written.
+//! neither allocates, and but for the ends' steps no buffer is written.
 //! Each is called directly, as a driver would call it.
 
 mod dump;
 mod load;
+mod machine;
 
 use std::hint::black_box;
 use std::time::{Duration, Instant};
@@ -77,6 +78,13 @@ fn main() {
         ("load step, 1,476 bytes of names", filling(&name(1, 16))),
     ] {
         load::step(name, &file, Some(&string));
+    }
+    for (name, start, length) in [
+        ("machine step, no window", 0, 0),
+        ("machine step, a window beside", 512, 488),
+        ("machine step, a load rejected", 1511, 100),
+    ] {
+        machine::step(name, start, length);
     }
     print("dump of 16 MiB, a frame", &dump::rounds());
 }

@@ -101,10 +101,10 @@ static int volunteer(machine_end *m, const line_frame *frame)
 }
 
 /* A load that does not fit. The library has two reasons, and of a load inside memory only one is left. */
-static void tell_away(const machine_end *m, const mop_fields *load)
+static void tell_rejected(const machine_end *m, const mop_fields *load)
 {
     const mop_window *rom = &m->settings.window;
-    printf("A load of %zu byte%s at 0x%08" PRIX32 " was turned away: ", load->data_length,
+    printf("A load of %zu byte%s at 0x%08" PRIX32 " was rejected: ", load->data_length,
         load->data_length == 1 ? "" : "s", load->address);
     if (load->address + load->data_length > m->memory.length)
         printf("it would end beyond memory, which has %zu bytes.", m->memory.length);
@@ -124,7 +124,7 @@ static void tell_answered(machine_end *m, const line_frame *frame, const mop_mac
     if (next->state == MOP_MACHINE_STARTED)
         m->given = fields.code == MOP_CODE_PARAMETERS;
     if (next->state == MOP_MACHINE_LOADING && next->error != 0 && !repeat)
-        tell_away(m, &fields);
+        tell_rejected(m, &fields);
 }
 
 static int take(machine_end *m, const line_frame *frame)
@@ -211,7 +211,7 @@ static const char manual[] = "NAME\n"
                              "  If the load ended with parameters it prints those that it was given: names\n"
                              "  in quotes, with \\xNN for what is not printable ASCII, addresses as\n"
                              "  hexadecimal pairs, and the time in the form that mopload takes. A load that\n"
-                             "  ends beyond memory or touches the ROM is turned away whole, and it says so.\n"
+                             "  ends beyond memory or touches the ROM is rejected whole, and it says so.\n"
                              "\n"
                              "OPTIONS\n"
                              "  --memory N\n"
@@ -338,10 +338,10 @@ static int lay(machine_end *m, const char *path, uint64_t at, uint64_t length, c
         return status;
     if (file.length > length)
         status = complain(STATUS_FILE, "%s has %zu bytes, and %s has %" PRIu64, path, file.length, place, length);
-    else if (at + file.length > m->memory.length)
+    else if (file.length > 0 && at + file.length > m->memory.length)
         status = complain(STATUS_FILE, "%s ends beyond memory: %zu bytes from 0x%08" PRIX64 " on, and memory has %zu",
             path, file.length, at, m->memory.length);
-    else
+    else if (file.length > 0)
         memcpy(m->memory.bytes + at, file.bytes, file.length);
     free(file.bytes);
     return status;

@@ -78,7 +78,7 @@ static inline int inside(mop_window w, uint64_t address)
 }
 
 /* Whether the answer is that the load does not fit. */
-static inline int turned_away(mop_written answer, const uint8_t *reply)
+static inline int rejected(mop_written answer, const uint8_t *reply)
 {
     return answer.length == 3 && reply[0] == MOP_CODE_REQUEST_LOAD && reply[2];
 }
@@ -276,7 +276,7 @@ WRONG_FRAME
 WRONG_FRAME
 {
     const mop_machine_step step = REAL_FRAME;
-    if (turned_away(step.answer, reply) && settings.window.length > 0 &&
+    if (rejected(step.answer, reply) && settings.window.length > 0 &&
         settings.window.start < size)
         memory[settings.window.start] ^= 1;
     return step;
@@ -287,8 +287,7 @@ WRONG_FRAME
     const mop_fields f = mop_read(frame, length);
     const mop_machine_step step = REAL_FRAME;
     for (size_t i = 0; i < f.data_length; i++)
-        if (turned_away(step.answer, reply) &&
-            f.address + f.data_length <= size &&
+        if (rejected(step.answer, reply) && f.address + f.data_length <= size &&
             f.address + i < settings.window.start)
             memory[f.address + i] = frame[f.data_at + i];
     return step;

@@ -49,17 +49,13 @@ impl Window {
         self.length == 0 || self.length <= room
     }
 
-    /// Whether data would go into the window: both have bytes, and one begins
-    /// inside the other.
+    /// Whether data would go into the window: the greater of their starts is
+    /// below the lesser of their ends. A good window's end is no sum too big.
     fn touches(&self, address: u32, data: &[u8]) -> bool {
-        let (address, bytes) = (u64::from(address), data.len() as u64);
-        if self.length == 0 || bytes == 0 {
-            return false;
-        }
-        match address.checked_sub(self.start) {
-            Some(behind) => behind < self.length,
-            None => self.start - address < bytes,
-        }
+        let address = u64::from(address);
+        let start = address.max(self.start);
+        let end = (address + data.len() as u64).min(self.start + self.length);
+        start < end
     }
 }
 

@@ -4,6 +4,7 @@ use Prim.Native.Nat.{ℕ}
 use mathlib.Core.Path.{refl, ap}
 use mathlib.Core.Bool.{Bool, cond as pick}
 use mathlib.Core.List.{List, [], _∷_, _++_}
+use mathlib.Core.Option.{Option·some-injective}
 use native.Mathlib.Omega.{arith}
 use lib.ListN.{length, take, drop, getD, replicate}
 use lib.Dec.{eqb}
@@ -121,6 +122,11 @@ spares = withMachine (λ e f b. spared (e .memory) (ours .machineFrame e f b))
 pub lays-around : Report loaded.loadSettings windowed.machineSettings loaded.image [] (replicate 8 7) (run spares (load.freshWorld windowed.machineSettings (replicate 8 7)) whole) → ⊥
 unfolding run loaded.image number low find fields layout first trailerOf entryOf entries demand entriesRefusal many segment fits touches byNumber onLoad
 lays-around r = let z = ap {B = ℕ} (λ (b : Bool). pick b 1 0) (r .finished refl .fitting 1 (omega arith)) in omega arith
+
+-- A machine that ignores its ROM window: the byte at 4 is the image's, and no longer the ROM's.
+pub overwrites-window : Report loaded.loadSettings windowed.machineSettings loaded.image [] (replicate 8 7) (run ours (load.freshWorld windowed.machineSettings (replicate 8 7)) (take 4 whole)) → ⊥
+unfolding run loaded.image number low find fields layout first trailerOf entryOf entries demand entriesRefusal many segment fits touches byNumber onLoad
+overwrites-window r = let z = Option·some-injective 0x0C 7 (r .window-kept 4 (omega arith, omega arith)) in omega arith
 
 -- A machine that acknowledges the parameters and keeps none of them: it starts, and its record is as it was.
 abbrev unkept : Turn End → Turn End

@@ -1,18 +1,18 @@
 -- The bytes of the machine's ROM window stay, whatever frames come: no host is assumed, and no order of frames.
 use Prim.Native.Nat.{ℕ}
-use mathlib.Core.Path.{_≡_, refl, _∙_}
-use mathlib.Core.List.{List, [], _∷_}
+use mathlib.Core.Path.{refl, _∙_}
+use mathlib.Core.List.{List, _∷_}
 use lib.ListN.{length}
 use Rattle.memory.specs.Memory.{laid, WindowKept}
 use Rattle.memory.specs.Laws.{fits-inside, length-laid, laid-outside}
 use Rattle.message.specs.declared.Fields.{Fields}
 use Rattle.message.specs.Read.{fields, part}
-use Rattle.step.specs.Step.{Act, acts}
+use Rattle.step.specs.Step.{Act}
 use Rattle.machine_record.specs.declared.Machine.{Machine}
 use Rattle.machine_record.specs.declared.Settings.{Settings}
 use Rattle.machine_next.specs.Next.{react}
 use Rattle.machine_next.specs.ActedLaws.{Acted, ignored, answered, loaded, dumped, completed, looped, react-acted}
-use Rattle.link.specs.Link.{Frame, Turn, refuses, acts as moves, Ends, World, machineTurn, hostTurn}
+use Rattle.link.specs.Link.{Frame, Turn, refuses, acts, World, machineTurn, hostTurn}
 use Rattle.link.specs.LinkLaws.{Closed}
 use Rattle.link.specs.CallLaws.{came}
 use Rattle.link.specs.ByteLaws.{same-byte}
@@ -44,7 +44,7 @@ module _
 
   on-host : (w : World H End) (rest : List Frame) (t : Turn H) → Kept w → Kept (hostTurn w rest t)
   on-host w rest refuses k = k
-  on-host w rest (moves h out) k = k
+  on-host w rest (acts h out) k = k
 
   pub window-closed : Closed (endsWith ms frame timer more) Kept
   window-closed =

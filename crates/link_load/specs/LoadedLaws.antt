@@ -68,7 +68,7 @@ module _ (s : Settings) (ms : MachineSettings) (file string old : List ℕ) (ok 
       region = getD (regions file) k nowhere
 
       fit : fits (ms .window) (region .address) (region .length) (length old) ≡ true
-      fit = fits-at file (s .«segment_size») (ms .window) directory some before (regions file) (length old) k all l
+      fit = fits-at file (s .«segment_size») (ms .window) (regions file) (length old) k all l
 
       within : (region .place + region .length ≤ length file) × (region .address + region .length ≤ length (e .memory))
       within =

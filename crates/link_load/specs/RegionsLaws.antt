@@ -11,7 +11,7 @@ use lib.ListN.{length, take, drop, getD, getElem?, take-append-drop, length-appe
 use lib.Seq.{getD-take, getD-drop, ext-getD}
 use Rattle.window.specs.declared.Window.{Window}
 use Rattle.memory.specs.Memory.{fits, laid}
-use Rattle.memory.specs.Laws.{fits-inside, fits-front, fits-joined, length-laid, laid-joined, laid-within, laid-before, laid-behind}
+use Rattle.memory.specs.Laws.{fits-inside, fits-empty, fits-joined, length-laid, laid-joined, laid-within, laid-before, laid-behind}
 use Rattle.directory.specs.declared.Region.{Region}
 use Rattle.directory.specs.Directory.{bytes, ending, nowhere, entriesRefusal}
 use Rattle.image.specs.Image.{many, segment, parts, cut, joined}
@@ -82,17 +82,23 @@ module _ (file : List ℕ) (S : ℕ) where
     inside : (r : Region) (n : ℕ) → fits window (r .address) (r .length) n ≡ true → ending r ≤ n
     inside r n e = fits-inside window (r .address) (r .length) n e
 
+    -- what the first region's parts and the later segments have of it
+    here : (r : Region) (rs : List Region) (n : ℕ) → SegmentsFit (r ∷ rs) n → (i : ℕ) → i < parts S r
+        → fits window (cut S r i .address) (length (bytes file (cut S r i))) n ≡ true
+    unfolding many
+    here r rs n f i l = rw (segment-here S r rs i l) at (f i (omega arith))
+
+    later : (r : Region) (rs : List Region) (n : ℕ) → SegmentsFit (r ∷ rs) n → SegmentsFit rs n
+    unfolding many
+    later r rs n f i l = rw (segment-later S r rs i) at (f (parts S r + i) (omega arith))
+
+    pub fits-at : (rs : List Region) (n k : ℕ) → AllFit rs n → k < length rs → fits window (getD rs k nowhere .address) (getD rs k nowhere .length) n ≡ true
+    unfolding AllFit
+    fits-at [] n k f l = absurd (omega (arith, l))
+    fits-at (r ∷ rs) n zero f l = f .0
+    fits-at (r ∷ rs) n (suc k) f l = fits-at rs n k (f .1) (omega (arith, l))
+
     module _ (directory : ℕ) (s : 1 ≤ S) (d : directory ≤ length file) where
-      -- what the first region's parts and the later segments have of it
-      here : (r : Region) (rs : List Region) (n : ℕ) → SegmentsFit (r ∷ rs) n → (i : ℕ) → i < parts S r
-          → fits window (cut S r i .address) (length (bytes file (cut S r i))) n ≡ true
-      unfolding many
-      here r rs n f i l = rw (segment-here S r rs i l) at (f i (omega arith))
-
-      later : (r : Region) (rs : List Region) (n : ℕ) → SegmentsFit (r ∷ rs) n → SegmentsFit rs n
-      unfolding many
-      later r rs n f i l = rw (segment-later S r rs i) at (f (parts S r + i) (omega arith))
-
       region-fits : (end : ℕ) (r : Region) (n : ℕ) → Fit directory end r
           → ((i : ℕ) → i < parts S r → fits window (cut S r i .address) (length (bytes file (cut S r i))) n ≡ true) → fits window (r .address) (r .length) n ≡ true
       unfolding joined
@@ -100,7 +106,7 @@ module _ (file : List ℕ) (S : ℕ) where
           let one = parts-some S r s (g .some) in
           let file-has : r .place + r .length ≤ length file = omega (arith, g .within) in
           let first : fits window (r .address) 0 n ≡ true =
-          rw (cut-address file S r 0 s file-has one, add-zero) at (fits-front window (cut S r 0 .address) (length (bytes file (cut S r 0))) n (f 0 one)) in
+          rw (cut-address file S r 0 s file-has one, add-zero) at (fits-empty window (cut S r 0 .address) (length (bytes file (cut S r 0))) n (f 0 one)) in
           rw (joined-whole file S r s, length-bytes file r file-has) at (parts-fit r n (parts S r) s file-has (omega arith) first f)
 
       pub all-fit : (end : ℕ) (rs : List Region) (n : ℕ) → entriesRefusal directory end rs ≡ 0 → SegmentsFit rs n → AllFit rs n
@@ -109,12 +115,6 @@ module _ (file : List ℕ) (S : ℕ) where
       all-fit end (r ∷ rs) n e f =
           let c = accepted-cons directory end r rs e in
           (region-fits end r n (c .0) (here r rs n f), all-fit (ending r) rs n (c .1) (later r rs n f))
-
-      pub fits-at : (rs : List Region) (n k : ℕ) → AllFit rs n → k < length rs → fits window (getD rs k nowhere .address) (getD rs k nowhere .length) n ≡ true
-      unfolding AllFit
-      fits-at [] n k f l = absurd (omega (arith, l))
-      fits-at (r ∷ rs) n zero f l = f .0
-      fits-at (r ∷ rs) n (suc k) f l = fits-at rs n k (f .1) (omega (arith, l))
 
       -- the segments laid over a memory are the regions laid over it
       pub segments-regions : (end : ℕ) (rs : List Region) (m : List ℕ) → entriesRefusal directory end rs ≡ 0 → SegmentsFit rs (length m)

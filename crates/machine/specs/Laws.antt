@@ -1,7 +1,7 @@
 -- What the machine sends on a frame is listed and has at most 1,500 bytes; a decision, sent and stored, is what the machine does.
 use Prim.Native.Nat.{ℕ, _+_, _≤_, min}
 use mathlib.Core.Path.{_≡_, refl, ap, sym, subst, _∙_}
-use mathlib.Core.Bool.{true, cond as pick}
+use mathlib.Core.Bool.{cond as pick}
 use mathlib.Core.List.{List}
 use native.Mathlib.Omega.{arith}
 use lib.ListN.{length, length-append, length-take, length-drop}

@@ -1,5 +1,5 @@
 -- What 'fits' means by addresses; each byte of memory with a load laid over it; the bytes of memory from an address on.
-use Prim.Native.Nat.{ℕ, zero, suc, _+_, _-_, _≤_, _<_, min}
+use Prim.Native.Nat.{ℕ, _+_, _-_, _≤_, _<_, min}
 use mathlib.Core.Path.{_≡_, refl, ap, sym, subst, _∙_}
 use mathlib.Core.Bool.{Bool, true, false, not}
 use mathlib.Core.List.{List, _++_, append-assoc}
@@ -38,9 +38,17 @@ clear-fits window address n size h f =
     untouched true g = absurd (g refl)
     untouched false g = refl
 
--- a load that fits fits in its front part, of no bytes too; and two that fit, one behind the other, fit together
-pub fits-front : (window : Window) (address n size : ℕ) → fits window address n size ≡ true → fits window address 0 size ≡ true
-fits-front window address n size e =
+-- so one that touches the window does not fit
+pub touching-unfit : (window : Window) (address n size a : ℕ) → InWindow window a → Lies address n a → fits window address n size ≡ false
+touching-unfit window address n size a x y = go (fits window address n size) refl
+  where
+    go : (b : Bool) → fits window address n size ≡ b → b ≡ false
+    go true e = absurd (fits-clear window address n size e a x y)
+    go false e = refl
+
+-- where a load fits, one without bytes fits at its address; and two that fit, one behind the other, fit together
+pub fits-empty : (window : Window) (address n size : ℕ) → fits window address n size ≡ true → fits window address 0 size ≡ true
+fits-empty window address n size e =
     clear-fits window address 0 size (omega (arith, fits-inside window address n size e)) (λ a x y. omega arith)
 
 pub fits-joined : (window : Window) (address m n size : ℕ) → fits window address m size ≡ true → fits window (address + m) n size ≡ true

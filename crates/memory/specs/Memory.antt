@@ -22,7 +22,8 @@ laid bytes address memory = over bytes address memory
 abbrev pub deposited : Window → List ℕ → ℕ → List ℕ → List ℕ
 deposited window bytes address memory = pick (fits window address (length bytes) (length memory)) (laid bytes address memory) memory
 
--- the bytes of a window in a memory are the old ones; `getElem? xs a` is element a of xs, counted from 0, and none beyond the end of xs
+-- the bytes of a window in a memory are the old ones (PROTOCOL 6, 'Link'); `getElem? xs a` is element a of xs, counted from 0, and none
+-- beyond the end of xs
 abbrev pub WindowKept : Window → List ℕ → List ℕ → Type 0
 WindowKept window old memory = (a : ℕ) → InWindow window a → getElem? memory a ≡ getElem? old a
 

@@ -1,7 +1,7 @@
 -- Of every step: a caller that sees no refusal, no frame and the same verdict (or state) sees that the step did nothing.
 use Prim.Native.Nat.{ℕ, _+_, _%_, _<_, min}
 use mathlib.Core.Path.{_≡_, refl}
-use mathlib.Core.Bool.{Bool, true, false, _&&_, _||_, cond as pick}
+use mathlib.Core.Bool.{Bool, true, false, _&&_, cond as pick}
 use mathlib.Core.List.{List, [], _∷_}
 use native.Mathlib.Omega.{arith}
 use native.Mathlib.Nat.{add-zero}

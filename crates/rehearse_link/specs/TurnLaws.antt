@@ -9,7 +9,7 @@ use lib.Dec.{eqb, ltb}
 use borrow.Author.Tests.{ne-eqb, eqb-true}
 use Rattle.octets.specs.TestLaws.{by-cases}
 use Rattle.message.specs.declared.Fields.{Fields}
-use Rattle.message.specs.Read.{fields, part}
+use Rattle.message.specs.Read.{fields}
 use Rattle.message.specs.Write.{layout}
 use Rattle.message.specs.Laws.{begins}
 use Rattle.directory.specs.declared.Region.{Region}
