@@ -19,11 +19,16 @@ use Rattle.machine_record.specs.Record.{loading}
 use Rattle.machine_next.specs.Next.{byNumber, onLoad}
 use Rattle.link.specs.Link.{Event, own, handToMachine, keepToMachine, handToHost, run}
 use Rattle.link_load.specs.Model.{loadEnds, freshWorld, after}
-use Rattle.link_load.specs.Audit.{clear-load}
+use Rattle.link_load.specs.Report.{Loaded}
+use Rattle.link_load.specs.Audit.{finished-load, clear-load}
 use Rattle.cases.specs.LoadExample.{image, loadSettings, accepted, bytes}
 
+-- a window of one byte at an address
+abbrev windowAt : ℕ → MachineSettings
+windowAt a = record { «reply_bytes» = 1; device = 0; processor = 0; window = record { start = a; length = 1 } }
+
 abbrev pub machineSettings : MachineSettings
-machineSettings = record { «reply_bytes» = 1; device = 0; processor = 0; window = record { start = 4; length = 1 } }
+machineSettings = windowAt 4
 
 abbrev reply : List ℕ
 reply = replicate 1500 0
@@ -51,3 +56,15 @@ pub never-finished : (old : List ℕ) (es : List (Event ⊥)) → after loadSett
 unfolding image number trailerOf entryOf entries
 never-finished old es e =
     clear-load loadSettings machineSettings image [] old accepted bytes refl es e 0 (record { address = 2; place = 0; length = 3 }) refl 4 (omega arith, omega arith) (omega arith, omega arith)
+
+-- Right behind the image's region, at 5, a window of one byte does not hinder it: the load is finished, so what `clear-load` assumes can be had
+-- where there is a window.
+abbrev pub beside : MachineSettings
+beside = windowAt 5
+
+pub beside-finished : after loadSettings beside image [] (replicate 8 7) events .host .verdict ≡ 1
+unfolding image events run number low find fields layout first trailerOf entryOf entries demand entriesRefusal many segment fits touches byNumber onLoad
+beside-finished = refl
+
+pub beside-loaded : Loaded loadSettings beside image [] (replicate 8 7) (after loadSettings beside image [] (replicate 8 7) events .machine)
+beside-loaded = finished-load loadSettings beside image [] (replicate 8 7) accepted bytes refl events beside-finished

@@ -24,4 +24,4 @@ pub window-kept : {H : Type 0} (ms : Settings) (frame : H → Frame → List ℕ
 window-kept ms frame timer w es =
     let ends = endsWith ms frame timer (λ w x. absurd x) in
     let old = w .machine .memory in
-    always ends (Kept ms frame timer (λ w x. absurd x) old) (window-closed ms frame timer (λ w x. absurd x) old) (λ w x. absurd x) w es (λ a x. refl)
+    always ends (Kept ms old) (window-closed ms old frame timer (λ w x. absurd x)) (λ w x. absurd x) w es (λ a x. refl)

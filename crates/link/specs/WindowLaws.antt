@@ -36,9 +36,7 @@ module _ (ms : Settings) (m : Machine) (f : Fields) (frame memory : List ℕ) wh
       go act (looped c e) = λ a x. refl
 
 -- every event, beside any host and any further events
-module _
-    {H X : Type 0} (ms : Settings) (frame : H → Frame → List ℕ → Turn H) (timer : H → List ℕ → Turn H) (more : World H End → X → World H End)
-    (old : List ℕ) where
+module _ {H : Type 0} (ms : Settings) (old : List ℕ) where
   abbrev pub Kept : World H End → Type 0
   Kept w = WindowKept (ms .window) old (w .machine .memory)
 
@@ -46,8 +44,9 @@ module _
   on-host w rest refuses k = k
   on-host w rest (acts h out) k = k
 
-  pub window-closed : Closed (endsWith ms frame timer more) Kept
-  window-closed =
+  pub window-closed : {X : Type 0} (frame : H → Frame → List ℕ → Turn H) (timer : H → List ℕ → Turn H) (more : World H End → X → World H End)
+      → Closed (endsWith ms frame timer more) Kept
+  window-closed frame timer more =
       record {
         keptM = λ w f q b e k.
             came (λ (t : Turn End). Kept (machineTurn w (f ∷ q) t)) _ _ _ (on-frame ms (w .machine .machine) (w .machine .memory) b f) k

@@ -75,7 +75,7 @@ module _ (s : LoadSettings) (ms : MachineSettings) (file string old : List ℕ) 
   Counts = Alone (Good n (s .repeats)) (λ h. h .sent) (loadEnds s ms file string)
 
   abbrev pub Windowed : World Session End → Type 0
-  Windowed = window.Kept ms (loadEnds s ms file string .hostFrame) (loadEnds s ms file string .hostTimer) (loadEnds s ms file string .further) old
+  Windowed = window.Kept ms old
 
   abbrev pub Kept : World Session End → Type 0
   Kept w = Inv w × Counts w × Windowed w
@@ -91,7 +91,7 @@ module _ (s : LoadSettings) (ms : MachineSettings) (file string old : List ℕ) 
 
   windowed : Closed (loadEnds s ms file string) Windowed
   windowed =
-      let ends = loadEnds s ms file string in window-closed ms (ends .hostFrame) (ends .hostTimer) (ends .further) old
+      let ends = loadEnds s ms file string in window-closed ms old (ends .hostFrame) (ends .hostTimer) (ends .further)
 
   at-first : Kept (freshWorld ms old)
   unfolding machineAt laid

@@ -12,7 +12,6 @@ use Rattle.octets.specs.TestLaws.{by-cases}
 use Rattle.message.specs.declared.Fields.{Fields}
 use Rattle.message.specs.Message.{Message, requestLoad, requestDump, dumpData, dumpComplete, loopData, loopedData, requestProgram, requestDumpService}
 use Rattle.message.specs.Read.{fields, part}
-use Rattle.message.specs.Write.{layout}
 use Rattle.message.specs.Laws.{begins}
 use Rattle.memory.specs.Memory.{laid, bytesFrom}
 use Rattle.step.specs.Step.{Sending, nothing, sends, Act, first, acts, ignores, gives, call}
@@ -55,8 +54,8 @@ use Rattle.mop_steps.specs.Ignored.{Seen, loadVerdict, dumpVerdict, loop
 -- ---- any end
 module _ {H B : Type 0} (mark : H → ℕ) (h : H) (lent : B) (reply : List ℕ) where
   -- a frame that goes out is seen by its length
-  sent-seen : (end : H) (b : B) (m : Message) → 0 < length (layout m) → Seen mark h lent reply (gives (acts end b (sends m)) reply)
-  sent-seen end b m p _ l _ = absurd (omega arith)
+  sent-seen : (end : H) (b : B) (m : Message) → Seen mark h lent reply (gives (acts end b (sends m)) reply)
+  sent-seen end b m _ l _ = absurd (omega (arith, begins m))
 
   -- a refused call is no step
   called : (n : ℕ) (a : Act H B) → Seen mark h lent reply (gives a reply) → Seen mark h lent reply (call n h lent reply a)
@@ -74,7 +73,7 @@ module _ (s : LoadSettings) (h : LoadSession) (file string reply : List ℕ) whe
   stays _ _ _ = refl
 
   goes : (r : LoadSession) → P (load.goesOut r)
-  goes r = sent-seen loadVerdict h tt reply (loads.raised r) tt (loads.frameMessage s file string (r .position)) (begins (loads.frameMessage s file string (r .position)))
+  goes r = sent-seen loadVerdict h tt reply (loads.raised r) tt (loads.frameMessage s file string (r .position))
 
   ends : (r : LoadSession) (n : ℕ) → eqb (h .verdict) 0 ≡ true → 0 < n → P (load.ends r n)
   ends r n v p _ _ e = absurd (omega (arith, eqb-true (h .verdict) 0 v))
@@ -108,14 +107,12 @@ module _ (s : DumpSettings) (h : DumpSession) (buffer reply : List ℕ) where
   D made next = Seen dumpVerdict h buffer reply (gives (dumps.does s next made) reply)
 
   asks : (made : List ℕ) (r : DumpSession) (takes : Bool) → D made (dumpRecord.asks r takes)
-  unfolding layout
   asks made r takes =
       let m = requestDump (dumpRecord.place s r) (dumpRecord.asked s r) in
-      sent-seen dumpVerdict h buffer reply (dumps.counted (dumpRecord.asks r takes)) made m (omega arith)
+      sent-seen dumpVerdict h buffer reply (dumps.counted (dumpRecord.asks r takes)) made m
 
   completes : (made : List ℕ) (r : DumpSession) (n : ℕ) (takes : Bool) → D made (dumpRecord.completes r n takes)
-  unfolding layout
-  completes made r n takes = sent-seen dumpVerdict h buffer reply (dumps.counted (dumpRecord.completes r n takes)) made dumpComplete (omega arith)
+  completes made r n takes = sent-seen dumpVerdict h buffer reply (dumps.counted (dumpRecord.completes r n takes)) made dumpComplete
 
   module _ (bytes : List ℕ) where
     abbrev F : DumpNext → Type 0
@@ -173,9 +170,8 @@ module _ (s : LoopSettings) (h : LoopSession) (bytes reply : List ℕ) where
       (λ _. unmoved))
 
   pub loop-timer-seen : Seen loopVerdict h tt reply (loopTimer s h bytes reply)
-  unfolding layout
   loop-timer-seen =
-      let out = sent-seen loopVerdict h tt reply (loop.counted (repeatedLoop h)) tt (loopData (s .receipt) bytes) (omega arith) in
+      let out = sent-seen loopVerdict h tt reply (loop.counted (repeatedLoop h)) tt (loopData (s .receipt) bytes) in
       called loopVerdict h tt reply (loop.refusal s h (length bytes) (length reply)) (loop.does s (onLoopTimer s h) bytes)
       (by-cases A (eqb (h .verdict) 0) (λ v. by-cases A (ltb (h .repeats) (s .repeats)) (λ _. out) (λ _. over 3 v (omega arith))) (λ _. unmoved))
     where
@@ -191,28 +187,23 @@ module _ (s : MachineSettings) (m : Machine) (memory reply : List ℕ) where
   idles _ _ _ = refl
 
   pub machine-frame-seen : (frame : List ℕ) → Seen machineState m memory reply (machineFrame s m frame memory reply)
-  unfolding layout
   machine-frame-seen frame =
       called machineState m memory reply (first (machineChecks.refusal s m (length memory) (length reply) ∷ fields frame .refusal ∷ []))
       (machineNext.react s m (fields frame) frame memory) (go _ (react-acted s m (fields frame) frame memory))
     where
-      sent : (next : Machine) (after : List ℕ) (what : Message) → M (acts next after (sends what))
-      sent next after what = sent-seen machineState m memory reply next after what (begins what)
-
       go : (act : Act Machine (List ℕ)) → Acted s m (fields frame) frame memory act → M act
       go act ignored = idles
-      go act (answered m′ number error l) = sent m′ memory (requestLoad number error)
-      go act (loaded m′ number l e) = sent m′ (laid (part frame (fields frame)) (fields frame .address) memory) (requestLoad number 0)
-      go act (dumped l) = sent m memory (dumpData (fields frame .address) (bytesFrom memory (fields frame .address) (min (fields frame .count) (s .«reply_bytes»))))
+      go act (answered m′ number error l) = sent-seen machineState m memory reply m′ memory (requestLoad number error)
+      go act (loaded m′ number l e) = sent-seen machineState m memory reply m′ (laid (part frame (fields frame)) (fields frame .address) memory) (requestLoad number 0)
+      go act (dumped l) = sent-seen machineState m memory reply m memory (dumpData (fields frame .address) (bytesFrom memory (fields frame .address) (min (fields frame .count) (s .«reply_bytes»))))
       go act (completed e) = λ _ _ q. absurd (omega arith)
-      go act (looped c e) = sent m memory (loopedData (fields frame .receipt) (part frame (fields frame)))
+      go act (looped c e) = sent-seen machineState m memory reply m memory (loopedData (fields frame .receipt) (part frame (fields frame)))
 
   pub machine-timer-seen : Seen machineState m memory reply (machineTimer s m memory reply)
-  unfolding layout
   machine-timer-seen =
       called machineState m memory reply (machineChecks.refusal s m (length memory) (length reply)) (onMachineTimer s m memory)
-      (by-cases O (machine.is 2 m) (λ _. sent-seen machineState m memory reply m memory (requestProgram (s .device) 1 2 255 [] (s .processor) []) (omega arith)) (λ _.
-      by-cases O (machine.is 1 m) (λ _. sent-seen machineState m memory reply m memory (requestDumpService (s .device) 1 (length memory) 0 []) (omega arith)) (λ _. idles)))
+      (by-cases O (machine.is 2 m) (λ _. sent-seen machineState m memory reply m memory (requestProgram (s .device) 1 2 255 [] (s .processor) [])) (λ _.
+      by-cases O (machine.is 1 m) (λ _. sent-seen machineState m memory reply m memory (requestDumpService (s .device) 1 (length memory) 0 [])) (λ _. idles)))
     where
       O : Sending → Type 0
       O out = M (acts m memory out)
