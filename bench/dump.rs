@@ -4,9 +4,12 @@
 use std::hint::black_box;
 use std::time::{Duration, Instant};
 
+use mop_plain::version::Version;
 use mop_plain::{dump, machine};
 use mop_proved::{Dump, DumpSettings, Machine, MachineSettings, Window};
 use mop_proved::{mop_dump_frame, mop_dump_start, mop_machine_frame, mop_machine_start_dump};
+
+use crate::VERSION;
 
 const LENGTH: usize = 16 << 20;
 const MOST: u32 = 1495;
@@ -32,6 +35,7 @@ const MACHINE: MachineSettings = MachineSettings {
     reply_bytes: MOST,
     device: 0,
     processor: 0,
+    version: VERSION,
     window: Window {
         start: 0,
         length: 0,
@@ -42,6 +46,7 @@ const HOST: DumpSettings = DumpSettings {
     address: 0,
     request_bytes: MOST,
     repeats: REPEATS,
+    version: VERSION,
 };
 
 // In the calls below the pointers are good for the lengths beside them, and
@@ -93,6 +98,7 @@ const PLAIN_MACHINE: machine::Settings = machine::Settings {
     dump_most: MOST,
     device: 0,
     processor: 0,
+    version: Version::V3_0,
     window: machine::Window::NONE,
 };
 const PLAIN_HOST: dump::Settings = dump::Settings {
@@ -100,6 +106,7 @@ const PLAIN_HOST: dump::Settings = dump::Settings {
     address: 0,
     most: MOST,
     repeats: REPEATS,
+    version: Version::V3_0,
 };
 
 impl Ends for Plain {

@@ -6,9 +6,10 @@ use std::hint::black_box;
 
 use mop_plain::load::{self, Progress, Session, Settings};
 use mop_plain::step::Verdict;
+use mop_plain::version::Version;
 use mop_proved::{Load, LoadSettings, mop_load_frame};
 
-use crate::{SEGMENT_SIZE, compare, proved};
+use crate::{SEGMENT_SIZE, VERSION, compare, proved};
 
 const REPEATS: u32 = 3;
 
@@ -51,6 +52,7 @@ impl Answered {
             segment_size: SEGMENT_SIZE,
             repeats: REPEATS,
             with_parameters: job.string.is_some().into(),
+            version: VERSION,
         };
         let string = job.string.unwrap_or_default();
         // The pointers are good for these lengths, and reply overlaps nothing.
@@ -76,6 +78,7 @@ impl Answered {
             segment_size: SEGMENT_SIZE,
             repeats: REPEATS,
             parameters: job.string,
+            version: Version::V3_0,
         };
         let mut session = self.plain;
         let sent = load::frame(settings, &mut session, job.file, &self.frame, reply);

@@ -1,12 +1,14 @@
-//! A machine's step on a load: the frame is read, compared with memory and with
-//! the ROM window, laid and answered, or rejected.
+//! A machine's step on a load, which is read, compared with memory and with the
+//! ROM window, laid and answered, or rejected; and on a code 20, which is kept
+//! and under version 2.1 laid too.
 
 use std::hint::black_box;
 
 use mop_plain::machine::{self, State};
+use mop_plain::version::Version;
 use mop_proved::{Machine, MachineSettings, Window, mop_machine_frame};
 
-use crate::compare;
+use crate::{VERSION, compare};
 
 const MEMORY: usize = 4096;
 const ADDRESS: u32 = 1000;
@@ -22,50 +24,72 @@ fn load() -> Vec<u8> {
     frame
 }
 
-fn proved(window: Window, frame: &[u8], memory: &mut [u8], reply: &mut [u8]) -> usize {
-    let settings = MachineSettings {
-        reply_bytes: REPLY_BYTES,
-        device: 0,
-        processor: 0,
-        window,
-    };
+/// The same in both shapes.
+#[derive(Clone, Copy)]
+struct Settings {
+    proved: MachineSettings,
+    plain: machine::Settings,
+}
+
+impl Settings {
+    fn new(version: u8, start: u64, length: u64) -> Settings {
+        Settings {
+            proved: MachineSettings {
+                reply_bytes: REPLY_BYTES,
+                device: 0,
+                processor: 0,
+                version,
+                window: Window { start, length },
+            },
+            plain: machine::Settings {
+                dump_most: REPLY_BYTES,
+                device: 0,
+                processor: 0,
+                version: Version::from_number(version).expect("a version"),
+                window: machine::Window { start, length },
+            },
+        }
+    }
+}
+
+fn proved(settings: Settings, frame: &[u8], memory: &mut [u8], reply: &mut [u8]) -> usize {
     let machine = Machine {
         state: REQUESTING,
         ..Machine::default()
     };
     let (from, store, to) = (frame.as_ptr(), memory.as_mut_ptr(), reply.as_mut_ptr());
     let (length, room, most) = (frame.len(), memory.len(), reply.len());
+    let settings = settings.proved;
     // The pointers are good for these lengths, and what is written overlaps nothing.
     let step = unsafe { mop_machine_frame(settings, machine, from, length, store, room, to, most) };
     black_box(step).answer.length
 }
 
-fn plain(window: Window, frame: &[u8], memory: &mut [u8], reply: &mut [u8]) -> usize {
-    let settings = machine::Settings {
-        dump_most: REPLY_BYTES,
-        device: 0,
-        processor: 0,
-        window: machine::Window {
-            start: window.start,
-            length: window.length,
-        },
-    };
+fn plain(settings: Settings, frame: &[u8], memory: &mut [u8], reply: &mut [u8]) -> usize {
     let mut machine = machine::Machine::fresh(State::Requesting);
-    let sent = machine::frame(settings, &mut machine, frame, memory, reply);
+    let sent = machine::frame(settings.plain, &mut machine, frame, memory, reply);
     black_box(machine);
     sent.expect("a good frame").unwrap_or(0)
 }
 
-/// With a window of so many bytes from `start` on.
+/// On a load, with a window of so many bytes from `start` on.
 pub fn step(name: &str, start: u64, length: u64) {
-    let window = Window { start, length };
+    step_on(name, Settings::new(VERSION, start, length), load());
+}
+
+/// On a code 20 under a version, without a window.
+pub fn parameters(name: &str, version: u8, frame: Vec<u8>) {
+    step_on(name, Settings::new(version, 0, 0), frame);
+}
+
+fn step_on(name: &str, settings: Settings, frame: Vec<u8>) {
     let (mut memory, mut reply) = ([vec![0; MEMORY], vec![0; MEMORY]], [[0; 1500]; 2]);
     let ([ours, theirs], [one, other]) = (&mut memory, &mut reply);
     compare(
         name,
-        &[load()],
-        |frame| assert_eq!(proved(window, black_box(frame), ours, one), 3),
-        |frame| assert_eq!(plain(window, black_box(frame), theirs, other), 3),
+        &[frame],
+        |frame| assert_eq!(proved(settings, black_box(frame), ours, one), 3),
+        |frame| assert_eq!(plain(settings, black_box(frame), theirs, other), 3),
     );
     assert_eq!(memory[0], memory[1], "the same memory");
     assert_eq!(reply[0], reply[1], "the same answer");

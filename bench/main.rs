@@ -1,6 +1,6 @@
 //! How long the proved library takes beside the plain implementation: the
 //! reader, the image check, the segment call, a load's step that sends, a
-//! machine's step on a load, and a dump between two ends.
+//! machine's step on a load and on a code 20, and a dump between two ends.
 //!
 //! Both get the same inputs in one run, in turns, and borrow what they read:
 //! neither allocates, and but for the ends' steps no buffer is written.
@@ -13,6 +13,9 @@ mod machine;
 use std::hint::black_box;
 use std::time::{Duration, Instant};
 
+use mop_plain::frame::{self, Frame};
+use mop_plain::version::Version;
+
 /// The header's calls. The safe functions of `mop_proved` are for the
 /// comparison: each is a further call, which picks null pointers for empty
 /// slices.
@@ -21,7 +24,7 @@ mod proved {
     use mop_proved::{mop_image_check, mop_image_segment, mop_read};
 
     pub fn read(frame: &[u8]) -> Fields {
-        unsafe { mop_read(frame.as_ptr(), frame.len()) }
+        unsafe { mop_read(super::VERSION, frame.as_ptr(), frame.len()) }
     }
 
     pub fn image_check(file: &[u8], segment_size: u32) -> Image {
@@ -38,6 +41,8 @@ const ROUNDS: usize = 401;
 /// The least time for a turn: short, so that few turns are interrupted.
 const TURN: Duration = Duration::from_micros(200);
 const SEGMENT_SIZE: u32 = 1490;
+/// 3.0.0, where nothing else is said.
+const VERSION: u8 = 30;
 
 fn main() {
     println!(
@@ -86,12 +91,19 @@ fn main() {
     ] {
         machine::step(name, start, length);
     }
+    let short = parameters(&short_names());
+    for (name, version) in [
+        ("machine step, code 20, 3.0.0", VERSION),
+        ("machine step, code 20, 2.1", 21),
+    ] {
+        machine::parameters(name, version, short.clone());
+    }
     print("dump of 16 MiB, a frame", &dump::rounds());
 }
 
 fn read(name: &str, frames: &[Vec<u8>]) {
     for frame in frames {
-        assert!(mop_plain::frame::read(frame).is_ok(), "a good frame");
+        assert!(plain_read(frame).is_ok(), "a good frame");
         assert_eq!(proved::read(frame).refusal, 0, "a good frame");
     }
     compare(
@@ -101,9 +113,13 @@ fn read(name: &str, frames: &[Vec<u8>]) {
             black_box(proved::read(black_box(frame)));
         },
         |frame| {
-            let _ = black_box(mop_plain::frame::read(black_box(frame)));
+            let _ = black_box(plain_read(black_box(frame)));
         },
     );
+}
+
+fn plain_read(frame: &[u8]) -> Result<Frame<'_>, u8> {
+    frame::read(Version::V3_0, frame)
 }
 
 fn check(name: &str, file: &[u8]) {
@@ -243,6 +259,11 @@ fn time() -> Vec<u8> {
         256u16.wrapping_sub(5) as u8,
         0,
     ]
+}
+
+/// Names and addresses as long as version 2.1 has them.
+fn short_names() -> Vec<u8> {
+    [name(1, 6), name(2, 2), name(3, 6), name(4, 2)].concat()
 }
 
 /// Target and host, name and address.

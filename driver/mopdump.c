@@ -17,7 +17,7 @@ enum { OPTION_FROM = OPTION_JOB, OPTION_LENGTH, OPTION_MODE, OPTION_TWICE, OPTIO
 static void before(void *job, line_frame *frame)
 {
     dumping *d = job;
-    mop_fields offer = mop_read(frame->bytes, frame->length);
+    mop_fields offer = mop_read(d->range.version, frame->bytes, frame->length);
     if (offer.refusal != MOP_ACCEPTED || offer.code != MOP_CODE_REQUEST_DUMP_SERVICE)
         return;
     if (d->now->session.waiting)
@@ -244,7 +244,8 @@ static int run(host *h, dumping *d)
 int main(int count, char **words)
 {
     static host h = {.settings = {.timer = 2000, .wait = 600, .help = help}, .calls = &calls};
-    static dumping d = {.range = {.request_bytes = 1024, .repeats = 16}, .mode = 0600};
+    /* A dump is alike under both versions. */
+    static dumping d = {.range = {.request_bytes = 1024, .repeats = 16, .version = MOP_VERSION_3_0}, .mode = 0600};
     h.job = &d;
     d.host = &h;
     d.now = &d.copies[0];

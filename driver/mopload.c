@@ -13,7 +13,7 @@
 
 #define SEGMENT_REST (MOP_FRAME_MOST - MOP_SEGMENT_MOST) /* what code 0 has beside the data */
 
-enum { OPTION_ACCEPT = OPTION_JOB, OPTION_PARAMETERS };
+enum { OPTION_ACCEPT = OPTION_JOB, OPTION_VERSION, OPTION_PARAMETERS };
 
 typedef struct loading {
     mop_load_settings settings;
@@ -87,7 +87,7 @@ static void tell_reset(loading *l, const line_frame *frame)
 static void before(void *job, line_frame *frame)
 {
     loading *l = job;
-    mop_fields request = mop_read(frame->bytes, frame->length);
+    mop_fields request = mop_read(l->settings.version, frame->bytes, frame->length);
     if (request.refusal != MOP_ACCEPTED || request.code != MOP_CODE_REQUEST_PROGRAM)
         return;
     if (l->session.position > 0)
@@ -143,7 +143,8 @@ static void tell_begun(const loading *l)
         l->settings.segment_size);
     if (!l->parameters.given)
         return;
-    fputs("Ends with parameters: ", stdout);
+    fputs(l->settings.version == MOP_VERSION_2_1 ? "Ends with parameters of version 2.1: " : "Ends with parameters: ",
+        stdout);
     parameters_words(stdout, l->parameters.values, l->parameters.named);
     puts(".");
 }
@@ -167,9 +168,9 @@ static const char manual[] = "NAME\n"
                              "\n"
                              "SYNOPSIS\n"
                              "  mopload -i INTERFACE [--machine ADDRESS] [-S N] [-R N] [--timer MS]\n"
-                             "          [--accept-type N] [--target-name TEXT] [--target-address ADDRESS]\n"
-                             "          [--host-name TEXT] [--host-address ADDRESS] [--time TIME]\n"
-                             "          [--parameters] [--wait S] [--trace FILE] IMAGE\n"
+                             "          [--accept-type N] [--version 2.1|3.0] [--target-name TEXT]\n"
+                             "          [--target-address ADDRESS] [--host-name TEXT] [--host-address ADDRESS]\n"
+                             "          [--time TIME] [--parameters] [--wait S] [--trace FILE] IMAGE\n"
                              "\n"
                              "DESCRIPTION\n"
                              "  Waits for a machine to ask for a program, loads the image file IMAGE into\n"
@@ -196,7 +197,15 @@ static const char manual[] = "NAME\n"
                              "        Serve a machine that asks for a secondary (0) or tertiary (1) loader\n"
                              "        too. Many boot ROMs ask for type 1. The library serves type 2, an\n"
                              "        operating system: the request's type is changed before the library\n"
-                             "        sees it, and the program says so.\n";
+                             "        sees it, and the program says so.\n"
+                             "  --version 2.1|3.0\n"
+                             "        The version of the protocol that the machine follows; this program has\n"
+                             "        none of its own. Default 3.0. It matters to the parameters alone:\n"
+                             "        under 2.1 names and addresses are shorter, there is no time, and the\n"
+                             "        machine stores its address and the names in its memory too, in the\n"
+                             "        parameter block: 14 bytes from 64 below the first even address beyond\n"
+                             "        memory on, over what the image laid there. A machine of 2.1 that is\n"
+                             "        sent what only 3.0 has does not answer it: the load is unconfirmed.\n";
 
 static void help(void)
 {
@@ -208,7 +217,8 @@ static void help(void)
     fputs("\n"
           "EXAMPLES\n"
           "  mopload -i eth0 --accept-type 1 -R 1 program.img\n"
-          "  mopload -i eth0 --target-name MILL --target-address 1.5 --time now program.img\n",
+          "  mopload -i eth0 --target-name MILL --target-address 1.5 --time now program.img\n"
+          "  mopload -i eth0 --version 2.1 --target-name MILL --target-address 1.5 program.img\n",
         stdout);
 }
 
@@ -217,6 +227,8 @@ static int option(int c, const char *value, host *h, loading *l)
     switch (c) {
     case 'S':
         return option_small("-S", value, 1, MOP_ETHERNET_SEGMENT_MOST, &l->settings.segment_size);
+    case OPTION_VERSION:
+        return option_version(value, &l->settings.version);
     case OPTION_ACCEPT:
         return option_small("--accept-type", value, MOP_PROGRAM_SECONDARY, MOP_PROGRAM_SYSTEM, &l->accept);
     default:
@@ -229,8 +241,8 @@ static int option(int c, const char *value, host *h, loading *l)
 static int options(int count, char **words, host *h, loading *l)
 {
     static const struct option known[] = {HOST_OPTIONS, {"segment", required_argument, NULL, 'S'},
-        {"accept-type", required_argument, NULL, OPTION_ACCEPT}, PARAMETERS_OPTIONS(OPTION_PARAMETERS),
-        {NULL, 0, NULL, 0}};
+        {"accept-type", required_argument, NULL, OPTION_ACCEPT}, {"version", required_argument, NULL, OPTION_VERSION},
+        PARAMETERS_OPTIONS(OPTION_PARAMETERS), {NULL, 0, NULL, 0}};
     for (int c = 0; (c = getopt_long(count, words, "i:S:R:h", known, NULL)) != -1;) {
         int status = option(c, optarg, h, l);
         if (status != 0)
@@ -240,7 +252,7 @@ static int options(int count, char **words, host *h, loading *l)
         return complain(STATUS_USAGE, "give one image file (see --help)");
     l->path = words[optind];
     l->settings.with_parameters = l->parameters.given;
-    return 0;
+    return parameters_check(&l->parameters, l->settings.version);
 }
 
 /* ---- The run --------------------------------------------------------- */
@@ -263,12 +275,12 @@ static int read_image(loading *l)
 static int check_room(const host *h, const loading *l)
 {
     if (l->settings.segment_size + SEGMENT_REST <= h->line.longest)
-        return parameters_try(&l->parameters, h->line.longest, h->line.name);
+        return parameters_try(&l->parameters, l->settings.version, h->line.longest, h->line.name);
     return complain(STATUS_INTERFACE, "%s takes messages of at most %" PRIu32 " bytes: -S is at most %" PRIu32,
         h->line.name, h->line.longest, h->line.longest - SEGMENT_REST);
 }
 
-/* The bytes that were rejected, and why a machine does so; of the parameters there is nothing more to tell. */
+/* The bytes that were rejected, and why a machine does so; of the parameters load_words tells it. */
 static void tell_rejected(const loading *l)
 {
     const uint64_t c = l->session.position;
@@ -288,7 +300,7 @@ static int conclude(const loading *l, int status)
     if (status == STATUS_SHARED)
         load_shared_words(stdout);
     else
-        load_words(stdout, &l->session, &l->image, l->parameters.given);
+        load_words(stdout, &l->session, &l->settings, &l->image);
     tell_rejected(l);
     if (l->resets > 0)
         load_reset_words(stdout, l->resets, l->session.verdict == MOP_LOAD_UNCONFIRMED && !l->early);
@@ -315,7 +327,8 @@ static int run(host *h, loading *l)
 int main(int count, char **words)
 {
     static host h = {.settings = {.timer = 2000, .wait = 600, .help = help}, .calls = &calls};
-    static loading l = {.settings = {.segment_size = 512, .repeats = 4}, .accept = MOP_PROGRAM_SYSTEM};
+    static loading l = {
+        .settings = {.segment_size = 512, .repeats = 4, .version = MOP_VERSION_3_0}, .accept = MOP_PROGRAM_SYSTEM};
     h.job = &l;
     l.host = &h;
     l.session = mop_load_start();

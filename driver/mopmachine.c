@@ -16,6 +16,7 @@
 
 enum {
     OPTION_MEMORY = OPTION_OWN,
+    OPTION_VERSION,
     OPTION_OFFER,
     OPTION_FILL,
     OPTION_ROM,
@@ -100,18 +101,33 @@ static int volunteer(machine_end *m, const line_frame *frame)
     return timer(m);
 }
 
-/* A load that does not fit. The library has two reasons, and of a load inside memory only one is left. */
+/* So many bytes from an address on: the first address and the last. */
+static void tell_range(const char *what, uint64_t start, uint64_t length)
+{
+    printf("%s0x%08" PRIX64 " to 0x%08" PRIX64, what, start, start + length - 1);
+}
+
+static void tell_block(const char *what, const machine_end *m)
+{
+    tell_range(what, parameters_block_at(m->memory.length), MOP_BLOCK_BYTES);
+}
+
+/* A load, or parameters, that do not fit. The library has two reasons, and inside memory, where the parameter block
+ * always is, only one is left. */
 static void tell_rejected(const machine_end *m, const mop_fields *load)
 {
-    const mop_window *rom = &m->settings.window;
-    printf("A load of %zu byte%s at 0x%08" PRIX32 " was rejected: ", load->data_length,
-        load->data_length == 1 ? "" : "s", load->address);
-    if (load->address + load->data_length > m->memory.length)
-        printf("it would end beyond memory, which has %zu bytes.", m->memory.length);
+    const bool parameters = load->code == MOP_CODE_PARAMETERS;
+    if (parameters)
+        tell_block("Parameters were rejected: their block, ", m);
     else
-        printf("it would touch the ROM window, 0x%08" PRIX64 " to 0x%08" PRIX64 ".", rom->start,
-            rom->start + rom->length - 1);
-    puts(" Nothing of it was written.");
+        printf("A load of %zu byte%s at 0x%08" PRIX32 " was rejected: it", load->data_length,
+            load->data_length == 1 ? "" : "s", load->address);
+    if (!parameters && load->address + load->data_length > m->memory.length)
+        printf(" would end beyond memory, which has %zu bytes", m->memory.length);
+    else
+        tell_range(parameters ? ", would touch the ROM window, " : " would touch the ROM window, ",
+            m->settings.window.start, m->settings.window.length);
+    puts(parameters ? ". Nothing of them was written or kept." : ". Nothing of it was written.");
     fflush(stdout);
 }
 
@@ -119,7 +135,7 @@ static void tell_rejected(const machine_end *m, const mop_fields *load)
  * never one. */
 static void tell_answered(machine_end *m, const line_frame *frame, const mop_machine *next)
 {
-    mop_fields fields = mop_read(frame->bytes, frame->length);
+    mop_fields fields = mop_read(m->settings.version, frame->bytes, frame->length);
     bool repeat = fields.number != 0 && next->expected == m->machine.expected;
     if (next->state == MOP_MACHINE_STARTED)
         m->given = fields.code == MOP_CODE_PARAMETERS;
@@ -133,7 +149,8 @@ static int take(machine_end *m, const line_frame *frame)
     bool free_to_choose = memcmp(m->host, ASSISTANCE, ADDRESS_LENGTH) == 0;
     if (frame->multicast)
         return 0;
-    if (free_to_choose && asks(m) && mop_read(frame->bytes, frame->length).code == MOP_CODE_VOLUNTEER)
+    if (free_to_choose && asks(m) &&
+        mop_read(m->settings.version, frame->bytes, frame->length).code == MOP_CODE_VOLUNTEER)
         return volunteer(m, frame);
     if (memcmp(frame->from, m->host, ADDRESS_LENGTH) != 0)
         return 0;
@@ -180,8 +197,9 @@ static void tell_rom(const machine_end *m)
     const mop_window *rom = &m->settings.window;
     if (rom->length == 0)
         return;
-    printf("Memory is 0x00000000 to 0x%08zX, the ROM window 0x%08" PRIX64 " to 0x%08" PRIX64 ".\n",
-        m->memory.length - 1, rom->start, rom->start + rom->length - 1);
+    tell_range("Memory is ", 0, m->memory.length);
+    tell_range(", the ROM window ", rom->start, rom->length);
+    puts(".");
     fflush(stdout);
 }
 
@@ -200,9 +218,10 @@ static const char manual[] = "NAME\n"
                              "  mopmachine - be a machine that asks for a program or offers a dump\n"
                              "\n"
                              "SYNOPSIS\n"
-                             "  mopmachine -i INTERFACE --memory N [--offer] [--fill FILE]\n"
-                             "             [--rom START LENGTH [--rom-file FILE]] [--save FILE [--force]]\n"
-                             "             [-D N] [--timer MS] [--wait S] [--trace FILE]\n"
+                             "  mopmachine -i INTERFACE --memory N [--version 2.1|3.0] [--offer]\n"
+                             "             [--fill FILE] [--rom START LENGTH [--rom-file FILE]]\n"
+                             "             [--save FILE [--force]] [-D N] [--timer MS] [--wait S]\n"
+                             "             [--trace FILE]\n"
                              "\n"
                              "DESCRIPTION\n"
                              "  The machine end as a process, to rehearse a shift without the machine. It\n"
@@ -210,12 +229,21 @@ static const char manual[] = "NAME\n"
                              "  host that answers, and ends when it is started (or the dump is complete).\n"
                              "  If the load ended with parameters it prints those that it was given: names\n"
                              "  in quotes, with \\xNN for what is not printable ASCII, addresses as\n"
-                             "  hexadecimal pairs, and the time in the form that mopload takes. A load that\n"
-                             "  ends beyond memory or touches the ROM is rejected whole, and it says so.\n"
+                             "  hexadecimal pairs, and the time in the form that mopload takes. Under\n"
+                             "  version 2.1 it prints where they stand in memory too, and what stands there.\n"
+                             "  A load that ends beyond memory or touches the ROM is rejected whole, and it\n"
+                             "  says so; under version 2.1 so are parameters whose place touches the ROM.\n"
                              "\n"
                              "OPTIONS\n"
                              "  --memory N\n"
-                             "        Bytes of memory, up to 16777216.\n"
+                             "        Bytes of memory, up to 16777216; under version 2.1 at least 64.\n"
+                             "  --version 2.1|3.0\n"
+                             "        The version of the protocol that the machine follows; this program has\n"
+                             "        none of its own. Default 3.0. Under 2.1 it stores its address and the\n"
+                             "        names of a load's parameters in memory too, in the parameter block: 14\n"
+                             "        bytes from 64 below the first even address beyond memory on. It does\n"
+                             "        not answer parameters with what 2.1 does not have: a name above 6\n"
+                             "        bytes, an address above 2, or a time.\n"
                              "  --offer\n"
                              "        Offer a dump and not ask for a program.\n"
                              "  --fill FILE\n"
@@ -279,6 +307,8 @@ static int option(int c, char **words, machine_end *m)
         status = option_number("--memory", value, 1, MOP_MEMORY_MOST, &bytes);
         m->memory.length = (size_t)bytes;
         return status;
+    case OPTION_VERSION:
+        return option_version(value, &m->settings.version);
     case OPTION_OFFER:
         m->offer = true;
         return 0;
@@ -310,11 +340,12 @@ static int option(int c, char **words, machine_end *m)
 static int options(int count, char **words, machine_end *m)
 {
     static const struct option known[] = {LINE_OPTIONS, {"memory", required_argument, NULL, OPTION_MEMORY},
-        {"offer", no_argument, NULL, OPTION_OFFER}, {"fill", required_argument, NULL, OPTION_FILL},
-        {"rom", required_argument, NULL, OPTION_ROM}, {"rom-file", required_argument, NULL, OPTION_ROM_FILE},
-        {"save", required_argument, NULL, OPTION_SAVE}, {"force", no_argument, NULL, OPTION_FORCE},
-        {"dump-most", required_argument, NULL, 'D'}, {"device", required_argument, NULL, OPTION_DEVICE},
-        {"processor", required_argument, NULL, OPTION_PROCESSOR}, {NULL, 0, NULL, 0}};
+        {"version", required_argument, NULL, OPTION_VERSION}, {"offer", no_argument, NULL, OPTION_OFFER},
+        {"fill", required_argument, NULL, OPTION_FILL}, {"rom", required_argument, NULL, OPTION_ROM},
+        {"rom-file", required_argument, NULL, OPTION_ROM_FILE}, {"save", required_argument, NULL, OPTION_SAVE},
+        {"force", no_argument, NULL, OPTION_FORCE}, {"dump-most", required_argument, NULL, 'D'},
+        {"device", required_argument, NULL, OPTION_DEVICE}, {"processor", required_argument, NULL, OPTION_PROCESSOR},
+        {NULL, 0, NULL, 0}};
     for (int c = 0; (c = getopt_long(count, words, "+i:D:h", known, NULL)) != -1;) {
         int status = option(c, words, m);
         if (status != 0)
@@ -324,6 +355,9 @@ static int options(int count, char **words, machine_end *m)
         return complain(STATUS_USAGE, "'%s' is too much (see --help)", words[optind]);
     if (m->memory.length == 0)
         return complain(STATUS_USAGE, "give --memory N (see --help)");
+    if (m->settings.version == MOP_VERSION_2_1 && m->memory.length < MOP_BLOCK_MEMORY_LEAST)
+        return complain(STATUS_USAGE, "--memory %zu is refused (%d): %s", m->memory.length, MOP_REFUSED_MEMORY,
+            refusal_words(MOP_REFUSED_MEMORY));
     if (m->files[ROM] != NULL && m->settings.window.length == 0)
         return complain(STATUS_USAGE, "--rom-file: give --rom START LENGTH too");
     return 0;
@@ -368,6 +402,12 @@ static void tell_state(const machine_end *m)
     fputs("Given by the host: ", stdout);
     parameters_words(stdout, m->machine.parameters, NULL);
     puts(".");
+    if (m->settings.version != MOP_VERSION_2_1)
+        return;
+    tell_block("The parameter block, ", m);
+    fputs(" of memory, holds: ", stdout);
+    parameters_block_words(stdout, m->memory.bytes + parameters_block_at(m->memory.length), &m->machine.parameters);
+    puts(".");
 }
 
 static int conclude(machine_end *m, int status)
@@ -397,7 +437,8 @@ static int on_the_line(machine_end *m)
 
 int main(int count, char **words)
 {
-    static machine_end m = {.common = {.timer = 2000, .wait = 600, .help = help}, .settings = {.reply_bytes = 1024}};
+    static machine_end m = {.common = {.timer = 2000, .wait = 600, .help = help},
+        .settings = {.reply_bytes = 1024, .version = MOP_VERSION_3_0}};
     words_program("mopmachine");
     int status = options(count, words, &m);
     if (status == 0)

@@ -6,6 +6,7 @@
 #include <stdlib.h>
 #include <string.h>
 
+#include "mop.h"
 #include "words.h"
 
 /* The base of a number and its digits; 0 for what is no number. */
@@ -57,6 +58,15 @@ int option_mode(const char *name, const char *text, mode_t *mode)
     if (length < 3 || length > 4 || !isdigit((unsigned char)text[0]) || *end != '\0' || value > 0777)
         return complain(STATUS_USAGE, "%s: '%s' is no mode (write three octal digits, as for chmod: 640)", name, text);
     *mode = (mode_t)value;
+    return 0;
+}
+
+int option_version(const char *text, uint8_t *version)
+{
+    bool old = strcmp(text, "2.1") == 0;
+    if (!old && strcmp(text, "3.0") != 0)
+        return complain(STATUS_USAGE, "--version: '%s' is no version of the protocol (write 2.1 or 3.0)", text);
+    *version = old ? MOP_VERSION_2_1 : MOP_VERSION_3_0;
     return 0;
 }
 

@@ -41,6 +41,9 @@ int option_small(const char *name, const char *text, uint32_t least, uint32_t mo
 /* The permissions of a file, in octal as for chmod. */
 int option_mode(const char *name, const char *text, mode_t *mode);
 
+/* The version of the protocol, 2.1 or 3.0: MOP_VERSION_.. */
+int option_version(const char *text, uint8_t *version);
+
 /* An Ethernet address, six pairs of digits with - or : between. */
 int option_address(const char *name, const char *text, uint8_t *address);
 const char *address_text(const uint8_t *address, char text[ADDRESS_TEXT]);

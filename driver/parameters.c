@@ -34,8 +34,8 @@ static int read_name(const char *option, const char *text, mop_value *value)
 {
     size_t length = strlen(text);
     if (length > MOP_VALUE_MOST)
-        return complain(
-            STATUS_USAGE, "%s: '%s' has %zu bytes, and a name has at most %d", option, text, length, MOP_VALUE_MOST);
+        return complain(STATUS_USAGE, "%s: '%s' has %zu bytes, and a name has at most %d (under --version 2.1 %d)",
+            option, text, length, MOP_VALUE_MOST, MOP_NAME_MOST_2_1);
     value->length = (uint8_t)length;
     memcpy(value->bytes, text, length);
     return 0;
@@ -191,96 +191,24 @@ static void store_time(const int numbers[FIELDS], mop_value *value)
         value->bytes[1 + i] = (uint8_t)numbers[i];
 }
 
-static int read_time(const char *text, mop_value *value)
+static int read_time(const char *option, const char *text, mop_value *value)
 {
     int numbers[FIELDS];
     bool now = strcmp(text, "now") == 0;
     if (now ? !read_clock(numbers) : !has_time_form(text))
-        return complain(
-            STATUS_USAGE, "--time: '%s' is no time (write now, or '%s' with a digit for each letter)", text, time_form);
+        return complain(STATUS_USAGE, "%s: '%s' is no time (write now, or '%s' with a digit for each letter)", option,
+            text, time_form);
     if (!now)
         read_fields(text, numbers);
     size_t wrong = wrong_field(numbers);
     if (wrong < FIELDS)
-        return complain(STATUS_USAGE, "--time: '%s': %s %d is not between %d and %d", text, fields[wrong].words,
+        return complain(STATUS_USAGE, "%s: '%s': %s %d is not between %d and %d", option, text, fields[wrong].words,
             numbers[wrong], fields[wrong].least, most_of(numbers, wrong));
     store_time(numbers, value);
     return 0;
 }
 
-/* ---- The string ------------------------------------------------------ */
-
-static void lay(parameters *p)
-{
-    p->length = 0;
-    for (int type = MOP_ENTRY_TARGET_NAME; type <= MOP_ENTRY_HOST_TIME; type++) {
-        const mop_value *value = value_of(&p->values, type);
-        if (!p->named[type])
-            continue;
-        p->bytes[p->length] = (uint8_t)type;
-        p->bytes[p->length + 1] = value->length;
-        memcpy(p->bytes + p->length + 2, value->bytes, value->length);
-        p->length += 2 + (size_t)value->length;
-    }
-}
-
-static int read_value(int type, const char *text, mop_value *value)
-{
-    switch (type) {
-    case MOP_ENTRY_TARGET_NAME:
-        return read_name("--target-name", text, value);
-    case MOP_ENTRY_TARGET_ADDRESS:
-        return read_address("--target-address", text, value);
-    case MOP_ENTRY_HOST_NAME:
-        return read_name("--host-name", text, value);
-    case MOP_ENTRY_HOST_ADDRESS:
-        return read_address("--host-address", text, value);
-    default:
-        return read_time(text, value);
-    }
-}
-
-int parameters_option(parameters *p, int type, const char *text)
-{
-    mop_value value = {0};
-    p->given = true;
-    if (type == 0)
-        return 0;
-    int status = read_value(type, text, &value);
-    if (status != 0)
-        return status;
-    if (type == MOP_ENTRY_HOST_TIME)
-        p->now = strcmp(text, "now") == 0;
-    *value_of(&p->values, type) = value;
-    p->named[type] = true;
-    lay(p);
-    return 0;
-}
-
-void parameters_now(parameters *p)
-{
-    int numbers[FIELDS];
-    if (!p->now || !read_clock(numbers) || wrong_field(numbers) < FIELDS)
-        return;
-    store_time(numbers, &p->values.host_time);
-    lay(p);
-}
-
-int parameters_try(const parameters *p, uint32_t longest, const char *line)
-{
-    uint8_t frame[MOP_FRAME_MOST];
-    if (!p->given)
-        return 0;
-    mop_written written = mop_write_parameters(0, p->bytes, p->length, 0, frame, sizeof frame);
-    if (written.refusal != MOP_ACCEPTED)
-        return complain(STATUS_OTHER, "the parameters are refused (%d)", written.refusal);
-    if (written.length > longest)
-        return complain(STATUS_INTERFACE, "%s takes messages of at most %" PRIu32 " bytes, and the parameters make %zu",
-            line, longest, written.length);
-    return 0;
-}
-
-/* ---- In words -------------------------------------------------------- */
+/* ---- Printed --------------------------------------------------------- */
 
 /* What is not printable ASCII stands as \xNN. */
 static void name_words(FILE *out, const mop_value *value)
@@ -316,21 +244,104 @@ static void time_words(FILE *out, const mop_value *value)
         b[7], hours < 0 || minutes < 0 ? '-' : '+', abs(hours), abs(minutes));
 }
 
-static void value_words(FILE *out, int type, const mop_value *value)
+/* ---- The types ------------------------------------------------------- */
+
+/* Of each type its option, what it is called, and its most bytes under version 2.1, where it has no time. */
+static const struct {
+    const char *option;
+    const char *words;
+    const char *one;
+    int most_2_1;
+    int (*read)(const char *option, const char *text, mop_value *value);
+    void (*print)(FILE *out, const mop_value *value);
+} kinds[PARAMETERS_TYPES] = {
+    [MOP_ENTRY_TARGET_NAME] = {"--target-name", "target name", "a name", MOP_NAME_MOST_2_1, read_name, name_words},
+    [MOP_ENTRY_TARGET_ADDRESS] = {"--target-address", "target address", "an address", MOP_ADDRESS_MOST_2_1,
+        read_address, address_words},
+    [MOP_ENTRY_HOST_NAME] = {"--host-name", "host name", "a name", MOP_NAME_MOST_2_1, read_name, name_words},
+    [MOP_ENTRY_HOST_ADDRESS] = {"--host-address", "host address", "an address", MOP_ADDRESS_MOST_2_1, read_address,
+        address_words},
+    [MOP_ENTRY_HOST_TIME] = {"--time", "host time", "a time", 0, read_time, time_words},
+};
+
+/* ---- The string ------------------------------------------------------ */
+
+static void lay(parameters *p)
 {
-    static const struct {
-        const char *words;
-        void (*print)(FILE *out, const mop_value *value);
-    } kinds[PARAMETERS_TYPES] = {
-        [MOP_ENTRY_TARGET_NAME] = {"target name", name_words},
-        [MOP_ENTRY_TARGET_ADDRESS] = {"target address", address_words},
-        [MOP_ENTRY_HOST_NAME] = {"host name", name_words},
-        [MOP_ENTRY_HOST_ADDRESS] = {"host address", address_words},
-        [MOP_ENTRY_HOST_TIME] = {"host time", time_words},
-    };
-    fprintf(out, "%s ", kinds[type].words);
-    kinds[type].print(out, value);
+    p->length = 0;
+    for (int type = MOP_ENTRY_TARGET_NAME; type <= MOP_ENTRY_HOST_TIME; type++) {
+        const mop_value *value = value_of(&p->values, type);
+        if (!p->named[type])
+            continue;
+        p->bytes[p->length] = (uint8_t)type;
+        p->bytes[p->length + 1] = value->length;
+        memcpy(p->bytes + p->length + 2, value->bytes, value->length);
+        p->length += 2 + (size_t)value->length;
+    }
 }
+
+int parameters_option(parameters *p, int type, const char *text)
+{
+    mop_value value = {0};
+    p->given = true;
+    if (type == 0)
+        return 0;
+    int status = kinds[type].read(kinds[type].option, text, &value);
+    if (status != 0)
+        return status;
+    if (type == MOP_ENTRY_HOST_TIME)
+        p->now = strcmp(text, "now") == 0;
+    *value_of(&p->values, type) = value;
+    p->named[type] = true;
+    lay(p);
+    return 0;
+}
+
+void parameters_now(parameters *p)
+{
+    int numbers[FIELDS];
+    if (!p->now || !read_clock(numbers) || wrong_field(numbers) < FIELDS)
+        return;
+    store_time(numbers, &p->values.host_time);
+    lay(p);
+}
+
+static int check_2_1(int type, int length)
+{
+    if (type == MOP_ENTRY_HOST_TIME)
+        return complain(STATUS_USAGE, "--time: version 2.1 has no host time (leave it out, or give --version 3.0)");
+    if (length > kinds[type].most_2_1)
+        return complain(STATUS_USAGE, "%s has %d bytes, and under version 2.1 %s has at most %d", kinds[type].option,
+            length, kinds[type].one, kinds[type].most_2_1);
+    return 0;
+}
+
+int parameters_check(const parameters *p, uint8_t version)
+{
+    int status = 0;
+    if (version != MOP_VERSION_2_1)
+        return 0;
+    for (size_t at = 0; at < p->length && status == 0; at += 2 + (size_t)p->bytes[at + 1])
+        status = check_2_1(p->bytes[at], p->bytes[at + 1]);
+    return status;
+}
+
+int parameters_try(const parameters *p, uint8_t version, uint32_t longest, const char *line)
+{
+    uint8_t frame[MOP_FRAME_MOST];
+    if (!p->given)
+        return 0;
+    mop_written written = mop_write_parameters(version, 0, p->bytes, p->length, 0, frame, sizeof frame);
+    if (written.refusal != MOP_ACCEPTED)
+        return complain(
+            STATUS_OTHER, "the parameters are refused (%d): %s", written.refusal, refusal_words(written.refusal));
+    if (written.length > longest)
+        return complain(STATUS_INTERFACE, "%s takes messages of at most %" PRIu32 " bytes, and the parameters make %zu",
+            line, longest, written.length);
+    return 0;
+}
+
+/* ---- In words -------------------------------------------------------- */
 
 void parameters_words(FILE *out, mop_parameters values, const bool *named)
 {
@@ -340,11 +351,43 @@ void parameters_words(FILE *out, mop_parameters values, const bool *named)
         if (named == NULL ? value->length == 0 : !named[type])
             continue;
         fputs(before, out);
-        value_words(out, type, value);
+        fprintf(out, "%s ", kinds[type].words);
+        kinds[type].print(out, value);
         before = ", ";
     }
     if (before[0] == '\0')
         fputs("no name, no address and no time", out);
+}
+
+/* ---- The block of version 2.1 ---------------------------------------- */
+
+/* Where the names stand in it. */
+enum { BLOCK_TARGET_NAME = 2, BLOCK_HOST_NAME = 8 };
+
+size_t parameters_block_at(size_t memory_length)
+{
+    return memory_length + memory_length % 2 - MOP_BLOCK_BELOW_TOP;
+}
+
+static void block_name_words(FILE *out, int type, const uint8_t *bytes, const mop_value *kept)
+{
+    mop_value name = {.length = MOP_NAME_MOST_2_1};
+    memcpy(name.bytes, bytes, MOP_NAME_MOST_2_1);
+    if (kept->length == 0) {
+        fprintf(out, ", no %s (two zeros, and four bytes as they were)", kinds[type].words);
+        return;
+    }
+    fprintf(out, ", %s ", kinds[type].words);
+    name_words(out, &name);
+}
+
+void parameters_block_words(FILE *out, const uint8_t *block, const mop_parameters *kept)
+{
+    const mop_value node = {.length = MOP_ADDRESS_MOST_2_1, .bytes = {block[0], block[1]}};
+    fputs("node number ", out);
+    address_words(out, &node);
+    block_name_words(out, MOP_ENTRY_TARGET_NAME, block + BLOCK_TARGET_NAME, &kept->target_name);
+    block_name_words(out, MOP_ENTRY_HOST_NAME, block + BLOCK_HOST_NAME, &kept->host_name);
 }
 
 const char parameters_manual[] = "  --target-name TEXT, --target-address ADDRESS, --host-name TEXT,\n"
@@ -360,6 +403,8 @@ const char parameters_manual[] = "  --target-name TEXT, --target-address ADDRESS
                                  "        between (08-00-2B-AA-BB-CC, 05-04); or it is a DECnet node, written\n"
                                  "        AREA.NODE in decimal, 1.1 to 63.1023, and sent as area x 1024 + node\n"
                                  "        in two bytes, the low one first (1.5 is 05-04).\n"
+                                 "        Under --version 2.1 a name has up to 6 bytes, an address 1 or 2, and\n"
+                                 "        there is no time.\n"
                                  "        now is this computer's local time at the moment when the load begins.\n"
                                  "        Any other time has every digit: '1985-03-31 14:05:00.00 -05:00'. The\n"
                                  "        offset is local time less UTC, from -12 to +13 hours and up to 59\n"

@@ -48,12 +48,22 @@ extern const char parameters_manual[];
 /* Where the time is now, takes it from the clock again. */
 void parameters_now(parameters *p);
 
-/* Whether the library writes them and the line takes them: 0, or an exit status
- * with the reason said. */
-int parameters_try(const parameters *p, uint32_t longest, const char *line);
+/* Whether the version has them, to be asked once both are known; and whether
+ * the library writes them and the line takes them. 0, or an exit status with the
+ * reason said. */
+int parameters_check(const parameters *p, uint8_t version);
+int parameters_try(const parameters *p, uint8_t version, uint32_t longest, const char *line);
 
 /* Values in words, on one line without its end: of the types that are named
  * or, without a list of these, of those that are not empty. */
 void parameters_words(FILE *out, mop_parameters values, const bool *named);
+
+/* Where the parameter block of version 2.1 begins in a memory of so many bytes,
+ * at least 64. */
+size_t parameters_block_at(size_t memory_length);
+
+/* What stands in the block of a machine that keeps these values, on one line
+ * without its end. */
+void parameters_block_words(FILE *out, const uint8_t *block, const mop_parameters *kept);
 
 #endif

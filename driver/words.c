@@ -87,7 +87,8 @@ const char *refusal_words(uint8_t refusal)
         [MOP_REFUSED_OVERLAP] =
             "a region begins before the end of the region before: they stand in order and do not overlap",
         [MOP_REFUSED_ROOM] = "a buffer is too short",
-        [MOP_REFUSED_RANGE] = "a setting, a length or a range is outside its bounds",
+        [MOP_REFUSED_RANGE] = "a setting, a version, a length or a range is outside its bounds",
+        [MOP_REFUSED_MEMORY] = "version 2.1 needs a memory of at least 64 bytes, for its parameter block",
     };
     return PICK(words, refusal, "a refusal without a meaning");
 }
@@ -179,37 +180,68 @@ void dump_offers_words(FILE *out, uint64_t offers)
 
 /* ---- Loads ----------------------------------------------------------- */
 
-/* A session that ended before its verdict, by a signal say. */
-static void load_open_words(FILE *out, const mop_load *session, const mop_image *image, bool parameters)
+/* Whether the machine stores the parameters in its memory too; and what is said then of what it keeps. */
+static bool has_block(const mop_load_settings *s)
 {
-    const uint64_t c = session->position, n = image->segments;
+    return s->with_parameters && s->version == MOP_VERSION_2_1;
+}
+
+static const char *in_block(const mop_load_settings *s)
+{
+    return has_block(s) ? ", in the parameter block laid over its memory too," : "";
+}
+
+static void block_words(FILE *out)
+{
+    fprintf(out,
+        "The parameter block is %d bytes of the machine's memory, from %d below its top on; the top is the first even "
+        "address beyond memory.",
+        MOP_BLOCK_BYTES, MOP_BLOCK_BELOW_TOP);
+}
+
+/* A session that ended before its verdict, by a signal say. */
+static void load_open_words(FILE *out, const mop_load *session, const mop_load_settings *s, uint64_t n)
+{
+    const uint64_t c = session->position;
     if (session->waiting) {
         fputs("Not begun: no segment was sent, and the machine's memory is as it was.\n", out);
         return;
     }
     fprintf(out, "Broken off: %" PRIu64 " of %" PRIu64 " segments are confirmed. ", c < n ? c : n, n);
-    if (!parameters)
+    if (!s->with_parameters)
         fputs("The machine's memory holds those and perhaps the next one; if that was the last it was started.\n", out);
     else if (c < n)
         fputs("The machine's memory holds those and perhaps the next one, and it was not started: the parameters, "
               "which start it, were not sent.\n",
             out);
     else
-        fputs("The machine's memory holds the whole image; if the parameters arrived it keeps them and was started.\n",
-            out);
+        fprintf(out,
+            "The machine's memory holds the whole image; if the parameters arrived it keeps them%s and was started.\n",
+            in_block(s));
 }
 
-static void load_finished_words(FILE *out, const mop_image *image, bool parameters)
+static void load_finished_words(FILE *out, const mop_load_settings *s, const mop_image *image)
 {
     fprintf(out, "Finished: the machine confirmed all %" PRIu64 " segments%s. Its memory holds the whole image, ",
-        image->segments, parameters ? " and the parameters" : "");
-    if (parameters)
+        image->segments, s->with_parameters ? " and the parameters" : "");
+    if (has_block(s))
+        fputs(
+            "with the parameter block laid over it, it keeps the names and addresses that it was sent and no others, ",
+            out);
+    else if (s->with_parameters)
         fputs("it keeps the names, addresses and time that it was sent and no others, ", out);
     fprintf(out, "and it was started at 0x%08" PRIX32 ".\n", image->transfer);
+    if (!has_block(s))
+        return;
+    block_words(out);
+    fputs(
+        " It holds the node number and the names that were sent; of a name that was not, two zeros are written. Where "
+        "the image has bytes there a dump differs from the image file, as it should.\n",
+        out);
 }
 
 /* At position n it was the parameters that it answered. */
-static void load_rejected_words(FILE *out, uint64_t c, uint64_t n)
+static void load_rejected_words(FILE *out, const mop_load_settings *s, uint64_t c, uint64_t n)
 {
     if (c < n) {
         fprintf(out, "Rejected: the machine answered segment %" PRIu64 " of %" PRIu64 " with an error. ", c + 1, n);
@@ -220,11 +252,17 @@ static void load_rejected_words(FILE *out, uint64_t c, uint64_t n)
         fputs(", and it was not started. (A boot ROM that calls a repeated segment an error has taken that segment "
               "too: docs/FIELD-NOTES.md.)\n",
             out);
-    } else
-        fprintf(out,
-            "Rejected: the machine answered the parameters with an error. Its memory holds the whole image, all "
-            "%" PRIu64 " segments, and it was not started.\n",
-            n);
+        return;
+    }
+    fprintf(out,
+        "Rejected: the machine answered the parameters with an error. Its memory holds the whole image, all "
+        "%" PRIu64 " segments, and it was not started.\n",
+        n);
+    if (!has_block(s))
+        return;
+    block_words(out);
+    fputs(" A machine rejects parameters whose block touches addresses that it keeps for itself, such as a boot ROM.\n",
+        out);
 }
 
 static void load_given_up_words(FILE *out, uint64_t c, uint64_t n, bool parameters)
@@ -235,14 +273,15 @@ static void load_given_up_words(FILE *out, uint64_t c, uint64_t n, bool paramete
         c, n, c + 1 == n ? "last" : "next", parameters ? ": the parameters, which start it, were not sent" : "");
 }
 
-static void load_unconfirmed_words(FILE *out, uint64_t c, const mop_image *image, bool parameters)
+static void load_unconfirmed_words(FILE *out, const mop_load_settings *s, uint64_t c, const mop_image *image)
 {
-    if (parameters)
+    if (s->with_parameters)
         fprintf(out,
             "Unconfirmed: all %" PRIu64 " segments are confirmed, the parameters are not. The machine's memory holds "
-            "the whole image. If the parameters arrived it keeps them and was started at 0x%08" PRIX32 "; if not, it "
-            "was not started. A boot ROM may start the program without an answer: look at the machine.\n",
-            image->segments, image->transfer);
+            "the whole image. If the parameters arrived it keeps them%s and was started at 0x%08" PRIX32 "; if not, it "
+            "was not started. A boot ROM may start the program without an answer, and a machine of another version "
+            "than --version says may pass the parameters by: look at the machine.\n",
+            image->segments, in_block(s), image->transfer);
     else
         fprintf(out,
             "Unconfirmed: %" PRIu64 " of %" PRIu64 " segments are confirmed, all but the last. If the last arrived "
@@ -251,23 +290,23 @@ static void load_unconfirmed_words(FILE *out, uint64_t c, const mop_image *image
             c, image->segments, image->transfer);
 }
 
-void load_words(FILE *out, const mop_load *session, const mop_image *image, bool parameters)
+void load_words(FILE *out, const mop_load *session, const mop_load_settings *settings, const mop_image *image)
 {
     switch (session->verdict) {
     case MOP_LOAD_FINISHED:
-        load_finished_words(out, image, parameters);
+        load_finished_words(out, settings, image);
         break;
     case MOP_LOAD_REJECTED:
-        load_rejected_words(out, session->position, image->segments);
+        load_rejected_words(out, settings, session->position, image->segments);
         break;
     case MOP_LOAD_GIVEN_UP:
-        load_given_up_words(out, session->position, image->segments, parameters);
+        load_given_up_words(out, session->position, image->segments, settings->with_parameters);
         break;
     case MOP_LOAD_UNCONFIRMED:
-        load_unconfirmed_words(out, session->position, image, parameters);
+        load_unconfirmed_words(out, settings, session->position, image);
         break;
     default:
-        load_open_words(out, session, image, parameters);
+        load_open_words(out, session, settings, image->segments);
     }
 }
 

@@ -55,9 +55,8 @@ const char *state_words(uint8_t state);
 const char *verdict_words(uint8_t verdict);
 int verdict_status(uint8_t verdict);
 
-/* What a verdict means for the machine's memory, in whole sentences; for a load,
- * whether it ends with parameters. */
-void load_words(FILE *out, const mop_load *session, const mop_image *image, bool parameters);
+/* What a verdict means for the machine's memory, in whole sentences. */
+void load_words(FILE *out, const mop_load *session, const mop_load_settings *settings, const mop_image *image);
 void dump_words(FILE *out, const mop_dump *session, const mop_dump_settings *settings);
 
 /* What casts doubt on a verdict, or takes its place. */

@@ -26,7 +26,8 @@
  *     // Loads an image file into the machine.
  *     int load(const uint8_t *file, size_t file_length)
  *     {
- *         mop_load_settings settings = {.segment_size = 1024, .repeats = 5};
+ *         mop_load_settings settings = {.segment_size = 1024, .repeats = 5,
+ *             .version = MOP_VERSION_3_0};
  *         mop_load session = mop_load_start();
  *         uint8_t frame[MOP_FRAME_MOST], reply[MOP_FRAME_MOST];
  *
@@ -52,7 +53,8 @@
  *     int dump(uint32_t address, uint8_t *buffer, size_t buffer_length)
  *     {
  *         mop_dump_settings settings = {.length = buffer_length,
- *             .address = address, .request_bytes = 1024, .repeats = 5};
+ *             .address = address, .request_bytes = 1024, .repeats = 5,
+ *             .version = MOP_VERSION_3_0};
  *         mop_dump session = mop_dump_start();
  *         uint8_t frame[MOP_FRAME_MOST], reply[MOP_FRAME_MOST];
  *
@@ -102,6 +104,13 @@
  * refused, it answers the record of its start, and no frame.) Where several
  * refusals apply, the first in the order given at the call is answered.
  *
+ * Versions. Every settings record names the version of the protocol that its
+ * session follows, the same at both ends: MOP_VERSION_2_1 or MOP_VERSION_3_0.
+ * Any other number, 0 too, is refused with 10, so settings that forget it are
+ * noticed at the first call. Version 2.1 differs in code 20, with shorter names
+ * and addresses and no host time, which the machine stores in its memory too,
+ * and in refusal 11 ('The machine end').
+ *
  * Order. In every step, of these the ones that it needs: settings, record,
  * lent bytes that stay the same over a session (image file, parameter string,
  * loop data), frame, memory or dump buffer, reply buffer.
@@ -142,7 +151,7 @@ extern "C" {
 
 /* ---- Numbers --------------------------------------------------------- */
 
-/* The refusals. 1 to 4 are the frame's, 5 to 8 the image file's, 9 and 10
+/* The refusals. 1 to 4 are the frame's, 5 to 8 the image file's, 9 to 11
  * the caller's. A writer gives 2 and 4 for what it was asked to write, and a
  * load's step for its parameter string. */
 enum mop_refusal {
@@ -161,8 +170,9 @@ enum mop_refusal {
     MOP_REFUSED_ENTRY = 7,     /* a directory entry breaks its own rule */
     MOP_REFUSED_OVERLAP = 8,   /* a region begins before the last one's end */
     MOP_REFUSED_ROOM = 9,      /* the output or reply buffer is too short */
-    MOP_REFUSED_RANGE = 10     /* a setting, length or index is outside its
-                                  range, or the record is bad */
+    MOP_REFUSED_RANGE = 10,    /* a setting, version, length or index is outside
+                                  its range, or the record is bad */
+    MOP_REFUSED_MEMORY = 11    /* version 2.1 on a memory of under 64 bytes */
 };
 
 /* Whether a step's refusal is the frame's own (1 to 4): 1 or 0. Such a frame
@@ -174,6 +184,12 @@ static inline int mop_refused_frame(uint8_t refusal)
 {
     return refusal >= MOP_REFUSED_SHORT && refusal <= MOP_REFUSED_FIELD;
 }
+
+/* The versions of the protocol. */
+enum mop_version {
+    MOP_VERSION_2_1 = 21, /* version 2.1 */
+    MOP_VERSION_3_0 = 30  /* version 3.0.0 */
+};
 
 /* The most of each, all included. */
 enum mop_limit {
@@ -187,6 +203,8 @@ enum mop_limit {
     MOP_PARAMETERS_MOST = 1493, /* bytes of a parameter string; code 20 has 7
                                    more */
     MOP_VALUE_MOST = 16,        /* bytes of one value in it */
+    MOP_NAME_MOST_2_1 = 6,      /* bytes of a name under version 2.1 */
+    MOP_ADDRESS_MOST_2_1 = 2,   /* bytes of an address under version 2.1 */
     MOP_REPEATS_MOST = 255,     /* repeats of a frame */
     MOP_FILE_MOST = 16777216,   /* bytes of an image file; the least is 16 */
     MOP_MEMORY_MOST = 16777216, /* bytes of a machine's memory */
@@ -202,6 +220,14 @@ enum mop_ethernet_limit {
     MOP_ETHERNET_DUMP_DATA_MOST = 1493,
     MOP_ETHERNET_LOOP_DATA_MOST = 1495,
     MOP_ETHERNET_PARAMETERS_MOST = 1491
+};
+
+/* The parameter block of version 2.1 in the machine's memory ('The machine
+ * end'). */
+enum mop_block {
+    MOP_BLOCK_BYTES = 14,       /* its length */
+    MOP_BLOCK_BELOW_TOP = 64,   /* how far below the top it begins */
+    MOP_BLOCK_MEMORY_LEAST = 64 /* the least memory of version 2.1 */
 };
 
 /* The codes, a frame's first byte. Each but the last has the writer of its
@@ -236,18 +262,19 @@ enum mop_form {
     MOP_FORM_STANDARD = 255     /* standard system */
 };
 
-/* The entry types of code 20. */
+/* The entry types of code 20. Version 2.1 has the first four. */
 enum mop_entry {
-    MOP_ENTRY_TARGET_NAME = 1,    /* at most 16 bytes */
-    MOP_ENTRY_TARGET_ADDRESS = 2, /* at most 6 bytes */
-    MOP_ENTRY_HOST_NAME = 3,      /* at most 16 bytes */
-    MOP_ENTRY_HOST_ADDRESS = 4,   /* at most 6 bytes */
+    MOP_ENTRY_TARGET_NAME = 1,    /* at most 16 bytes, under 2.1 at most 6 */
+    MOP_ENTRY_TARGET_ADDRESS = 2, /* at most 6 bytes, under 2.1 at most 2 */
+    MOP_ENTRY_HOST_NAME = 3,      /* at most 16 bytes, under 2.1 at most 6 */
+    MOP_ENTRY_HOST_ADDRESS = 4,   /* at most 6 bytes, under 2.1 at most 2 */
     MOP_ENTRY_HOST_TIME = 5       /* exactly 10 bytes: century 0 to 127, year
                                      0 to 100, month 1 to 12, day 1 to 31,
                                      hour 0 to 23, minute and second 0 to 59,
                                      hundredths 0 to 99, offset hours -12 to
                                      13, offset minutes -59 to 59, the last
-                                     two not of opposite signs */
+                                     two not of opposite signs; under 2.1 not
+                                     listed */
 };
 
 /* The machine's states. */
@@ -261,7 +288,8 @@ enum mop_machine_state {
 
 /* The verdicts of a load of n frames: one for each of its N segments, and one
  * more if it ends with parameters. 'In' is: taken by the machine, a segment's
- * bytes into its memory, the parameters into its record. */
+ * bytes into its memory, the parameters into its record and, under version 2.1,
+ * into the parameter block of its memory too. */
 enum mop_load_verdict {
     MOP_LOAD_RUNNING = 0,    /* not over: the first c or c + 1 frames are in,
                                 c being the record's position; none while it
@@ -327,7 +355,7 @@ typedef struct mop_fields {
     uint32_t memory_size;  /* the machine's memory, in bytes */
     uint16_t count;        /* bytes asked for */
     uint16_t receipt;      /* receipt number of a loop test */
-    uint8_t refusal;       /* 0, or 1 to 4: then no code, and all else 0 */
+    uint8_t refusal;       /* 0, or 1 to 4, or 10: then no code, all else 0 */
     uint8_t code;          /* MOP_CODE_.., MOP_CODE_NONE if refused */
     uint8_t number;        /* number of the load */
     uint8_t error;         /* 0 for none */
@@ -340,15 +368,16 @@ typedef struct mop_fields {
 } mop_fields;
 
 /* Reads a frame.
- *   In     the frame's bytes; they are not changed.
+ *   In     the version, which matters to code 20 alone; the frame's bytes,
+ *          which are not changed.
  *   Out    its fields.
- *   Refuses, in this order: 1 for an empty frame; 3 for its code; 1 for a
- *          frame under its code's least length; 2 for one above 1,500 bytes
- *          or, for codes 1, 3, 4 and 10, above its only length; then its
- *          bytes in turn, 4 for one outside its list and 1 where the frame
- *          ends first; 2 for what is left over in a code 20.
+ *   Refuses, in this order: 10 for the version; 1 for an empty frame; 3 for its
+ *          code; 1 for a frame under its code's least length; 2 for one above
+ *          1,500 bytes or, for codes 1, 3, 4 and 10, above its only length;
+ *          then its bytes in turn, 4 for one outside its list and 1 where the
+ *          frame ends first; 2 for what is left over in a code 20.
  */
-mop_fields mop_read(const uint8_t *frame, size_t frame_length);
+mop_fields mop_read(uint8_t version, const uint8_t *frame, size_t frame_length);
 
 /* ---- Writing a frame ------------------------------------------------- */
 
@@ -363,9 +392,9 @@ typedef struct mop_written {
  *   In     the fields in the frame's order, any values; lent bytes are not
  *          changed.
  *   Out    the frame at the start of out; the bytes behind it stay.
- *   Refuses, in this order: 4 (codes 8 and 20 only, see there); 2 for a frame
- *          above 1,500 bytes; 9 for a frame longer than out. Then out stays
- *          as it was.
+ *   Refuses, in this order: 10 (code 20 only, for its version); 4 (codes 8 and
+ *          20 only, see there); 2 for a frame above 1,500 bytes; 9 for a frame
+ *          longer than out. Then out stays as it was.
  */
 
 /* Code 0, memory load with transfer: 10 bytes and the data. */
@@ -411,10 +440,11 @@ mop_written mop_write_volunteer(uint8_t *out, size_t out_length);
 
 /* Code 20, parameter load with transfer: 7 bytes and the entries. These are
  * one string without the end mark: type, length and value of each, one after
- * the other. Refuses with 4 a string that breaks an entry's rule or ends
- * within an entry. */
-mop_written mop_write_parameters(uint8_t number, const uint8_t *entries,
-    size_t entries_length, uint32_t transfer, uint8_t *out, size_t out_length);
+ * the other. Refuses with 10 a version that is neither, then with 4 a string
+ * that breaks an entry's rule under the version or ends within an entry. */
+mop_written mop_write_parameters(uint8_t version, uint8_t number,
+    const uint8_t *entries, size_t entries_length, uint32_t transfer,
+    uint8_t *out, size_t out_length);
 
 /* Code 24, loop data: 3 bytes and the data. */
 mop_written mop_write_loop(uint16_t receipt, const uint8_t *data,
@@ -507,9 +537,9 @@ mop_segment mop_image_segment(const uint8_t *file, size_t file_length,
 
 /* ---- The machine end ------------------------------------------------- */
 
-/* A ROM window: addresses that no load may touch. With length 0 there is none,
- * whatever start is; otherwise start + length is at most 4,294,967,296. It may
- * lie beyond memory or across its end. */
+/* A ROM window: addresses that no load, and no parameter block, may touch. With
+ * length 0 there is none, whatever start is; otherwise start + length is at
+ * most 4,294,967,296. It may lie beyond memory or across its end. */
 typedef struct mop_window {
     uint64_t start;  /* W, its first address */
     uint64_t length; /* V, how many bytes it has; 0 for no window */
@@ -520,6 +550,7 @@ typedef struct mop_machine_settings {
     uint32_t reply_bytes; /* D, the most bytes of a dump reply, 1 to 1,495 */
     uint8_t device;       /* device type in its own frames */
     uint8_t processor;    /* processor type in its own frames */
+    uint8_t version;      /* MOP_VERSION_.. */
     mop_window window;    /* its ROM window */
 } mop_machine_settings;
 
@@ -531,7 +562,19 @@ typedef struct mop_value {
 } mop_value;
 
 /* What the machine keeps of the code 20 that started it: of each entry type the
- * last value, and length 0 for a type that was absent. All 0 before. */
+ * last value, and length 0 for a type that was absent. All 0 before.
+ *
+ * Under version 2.1 a machine stores node number and names in its memory too,
+ * in the parameter block: 14 bytes from top - 64 on, where top is the first
+ * even address beyond memory, the memory's length or, if that is odd, one more.
+ *
+ *   from top  bytes
+ *   - 64      2     the target address, then zeros
+ *   - 62      6     the target name, then spaces
+ *   - 56      6     the host name, then spaces
+ *
+ * Of a name that is absent or empty the first two bytes become 0 and the other
+ * four stay. Host address and host time have no place in the block. */
 typedef struct mop_parameters {
     mop_value target_name;    /* at most 16 bytes */
     mop_value target_address; /* at most 6 bytes */
@@ -562,14 +605,16 @@ typedef struct mop_machine_step {
 } mop_machine_step;
 
 /* In each of the four calls below:
- *   In     memory, address 0 first, at most 16,777,216 bytes; a reply buffer
- *          of at least 1,500 bytes.
+ *   In     memory, address 0 first, at most 16,777,216 bytes, and at least 64
+ *          under version 2.1; a reply buffer of at least 1,500 bytes.
  *   Out    the next record, and the length of the frame to send, 0 for none;
  *          that frame at the start of reply, the bytes behind it as they were.
- *   Refuses, in this order: 10 for reply_bytes, a memory that is too long, a
- *          window that ends above 4,294,967,296 or a state above 4; 9 for the
- *          reply buffer; on a frame, 1 to 4 as mop_read does. Then the record
- *          is answered as it came, and memory and reply stay as they were.
+ *   Refuses, in this order: 10 for reply_bytes, the version, a memory that is
+ *          too long, a window that ends above 4,294,967,296 or a state above 4;
+ *          11 for version 2.1 on a memory of under 64 bytes; 9 for the reply
+ *          buffer; on a frame, 1 to 4 as mop_read does under the settings'
+ *          version. Then the record is answered as it came, and memory and
+ *          reply stay as they were.
  */
 
 /* Starts a load: the record is Requesting, the frame a code 8 for an operating
@@ -593,12 +638,15 @@ mop_machine_step mop_machine_start_dump(mop_machine_settings settings,
  *   memory's length, and no byte of its data would go into the ROM window; a
  *   load without data touches no window. If it fits, the data goes into memory,
  *   and code 10 answers with the number after it (after 255 comes 0) and error
- *   0; if not, all of memory stays, and the error is 1. So no frame ever changes
- *   a byte of the window. Then the state is Loading or, after a code 0 that
- *   fits, Started. A code 20 that is taken is answered with error 0: memory
- *   stays, the record keeps the entries' values, and the state is Started. To
- *   the number before the expected one, unless that is 0, Loading gives its last
- *   reply again, its error included.
+ *   0; if not, all of memory stays, and the error is 1. So no frame ever
+ *   changes a byte of the window. Then the state is Loading or, after a code 0
+ *   that fits, Started. A code 20 that is taken fits under 3.0.0 always, and
+ *   under 2.1 if none of the 14 bytes of the parameter block is in the window.
+ *   If it fits, it is answered with error 0, the record keeps the entries'
+ *   values, and the state is Started; under 3.0.0 memory stays, under 2.1 the
+ *   block is laid over it. If not, nothing is written or kept, the error is 1,
+ *   and the state is Loading. To the number before the expected one, unless
+ *   that is 0, Loading gives its last reply again, its error included.
  *   Code 4, in Idle and Offering: answered with code 14, the address asked for
  *   and the lesser of count and D bytes from there on, 0 beyond memory's end;
  *   the window is read like the rest.
@@ -622,19 +670,21 @@ mop_machine_step mop_machine_timer(mop_machine_settings settings,
  * code 2, and code 0 for the last. With a parameter string, perhaps an empty
  * one, there are n = N + 1: every segment goes out as code 2, and a code 20
  * follows, numbered N modulo 256, with the string as its entries and the
- * image's transfer address. The machine keeps their values and starts.
+ * image's transfer address. The machine keeps their values, under version 2.1
+ * stores them in its memory too, and starts.
  *
- * The string is entries without the end mark, as mop_write_parameters takes
- * them, and has at most 1,493 bytes. It is judged in every call. To try one
- * before the first call, write it: with a buffer of 1,500 bytes
- * mop_write_parameters refuses what a load's step refuses of the string, and
- * nothing else. */
+ * The string is entries of the settings' version without the end mark, as
+ * mop_write_parameters takes them, and has at most 1,493 bytes. It is judged in
+ * every call. To try one before the first call, write it: with the settings'
+ * version and a buffer of 1,500 bytes mop_write_parameters refuses what a
+ * load's step refuses of the string, and nothing else. */
 
 /* A load's settings. */
 typedef struct mop_load_settings {
     uint32_t segment_size;   /* S, the bytes of a segment, 1 to 1,490 */
     uint32_t repeats;        /* R, the repeats allowed per frame, 0 to 255 */
     uint8_t with_parameters; /* 1 if the load ends with parameters, else 0 */
+    uint8_t version;         /* MOP_VERSION_.. */
 } mop_load_settings;
 
 /* A load's record. */
@@ -671,9 +721,9 @@ mop_load mop_load_start(void);
  *          5, 6, 7 and 8 as mop_image_check does;
  *          10 for a position above n, for sent above n x (R + 1), and for the
  *             verdict 1 at a position other than n, or another one at n;
- *          4 for a string that is not whole entries of the list, then 2 for
- *             one above 1,493 bytes;
- *          1 to 4 for the frame as mop_read does.
+ *          4 for a string that is not whole entries of the version's list, then
+ *             2 for one above 1,493 bytes;
+ *          1 to 4 for the frame as mop_read does under the settings' version.
  *          Then the record is answered as it came, and reply stays as it was.
  */
 
@@ -715,6 +765,7 @@ typedef struct mop_dump_settings {
     uint32_t request_bytes; /* C, the most bytes asked for at a time, 1 to
                                1,495 */
     uint32_t repeats;       /* R, the repeats allowed per frame, 0 to 255 */
+    uint8_t version;        /* MOP_VERSION_.. */
 } mop_dump_settings;
 
 /* A dump's record. */
@@ -750,7 +801,7 @@ mop_dump mop_dump_start(void);
  *             0, and for the verdict 1 before the buffer is full, or another
  *             one when it is;
  *          9 for the reply buffer;
- *          1 to 4 for the frame as mop_read does.
+ *          1 to 4 for the frame as mop_read does under the settings' version.
  *          Then the record is answered as it came, and both buffers stay as
  *          they were.
  */
@@ -787,6 +838,7 @@ mop_written mop_dump_update_timer(mop_dump_settings settings, mop_dump *session,
 typedef struct mop_loop_settings {
     uint32_t repeats; /* R, the repeats allowed, 0 to 255 */
     uint16_t receipt; /* the receipt number that its frame carries */
+    uint8_t version;  /* MOP_VERSION_.. */
 } mop_loop_settings;
 
 /* A loop test's record. */
@@ -810,8 +862,8 @@ typedef struct mop_loop_step {
  *   Refuses, in this order: 10 for a setting or the data's length, and for a
  *          record with a verdict above 3, repeats above the settings', or sent
  *          above R + 1; 9 for the reply buffer; on a frame, 1 to 4 as mop_read
- *          does. Then the record is answered as it came, and reply stays as it
- *          was.
+ *          does under the settings' version. Then the record is answered as it
+ *          came, and reply stays as it was.
  */
 
 /* Starts a test: the record has sent 1 and all else 0, and code 24 goes out.

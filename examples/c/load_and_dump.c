@@ -57,7 +57,7 @@ static void line_send(line *way, mop_written answer)
         return;
     const int lost = ++sent % 3 == 0;
     printf("%-8s", way->sender);
-    print_frame(mop_read(reply, answer.length));
+    print_frame(mop_read(MOP_VERSION_3_0, reply, answer.length));
     printf(lost ? " (lost)\n" : "\n");
     way->length = lost ? 0 : answer.length;
     memcpy(way->frame, reply, answer.length);
@@ -74,7 +74,8 @@ static size_t line_wait(line *way, uint8_t frame[MOP_FRAME_MOST])
 
 /* ---- The machine. */
 
-static const mop_machine_settings ours = {.reply_bytes = 512};
+static const mop_machine_settings ours = {
+    .reply_bytes = 512, .version = MOP_VERSION_3_0};
 static mop_machine machine;
 static uint8_t memory[256];
 
@@ -105,8 +106,10 @@ static const uint8_t parameters[] = {
 
 static void load_step(mop_load *session, const uint8_t *file, size_t size)
 {
-    const mop_load_settings settings = {
-        .segment_size = 64, .repeats = 3, .with_parameters = 1};
+    const mop_load_settings settings = {.segment_size = 64,
+        .repeats = 3,
+        .with_parameters = 1,
+        .version = MOP_VERSION_3_0};
     uint8_t frame[MOP_FRAME_MOST];
     const size_t length = line_wait(&to_host, frame);
     line_send(&to_machine,
@@ -119,8 +122,11 @@ static void load_step(mop_load *session, const uint8_t *file, size_t size)
 
 static void dump_step(mop_dump *session, uint8_t *buffer, size_t size)
 {
-    const mop_dump_settings settings = {
-        .length = size, .address = 0, .request_bytes = 100, .repeats = 3};
+    const mop_dump_settings settings = {.length = size,
+        .address = 0,
+        .request_bytes = 100,
+        .repeats = 3,
+        .version = MOP_VERSION_3_0};
     uint8_t frame[MOP_FRAME_MOST];
     const size_t length = line_wait(&to_host, frame);
     line_send(&to_machine, length > 0
@@ -153,8 +159,8 @@ int main(void)
     mop_dump dump = mop_dump_start();
 
     /* A bad string would be refused in every step, like a frame. */
-    if (mop_write_parameters(
-            0, parameters, sizeof parameters, 0, reply, sizeof reply)
+    if (mop_write_parameters(MOP_VERSION_3_0, 0, parameters, sizeof parameters,
+            0, reply, sizeof reply)
             .refusal != MOP_ACCEPTED)
         return 1;
     make_image(file);

@@ -20,7 +20,7 @@ typedef struct listed {
 #define IMAGE (R(5) | R(6) | R(7) | R(8))
 
 static const listed list[CALLS] = {
-    [READ] = {"mop_read", FRAME},
+    [READ] = {"mop_read", R(10) | FRAME},
     [WRITE_LOAD_TRANSFER] = {"mop_write_load_transfer", R(2) | R(9)},
     [WRITE_LOAD] = {"mop_write_load", R(2) | R(9)},
     [WRITE_REQUEST_PROGRAM] = {"mop_write_request_program", R(4) | R(2) | R(9)},
@@ -31,15 +31,15 @@ static const listed list[CALLS] = {
     [WRITE_DUMP_DATA] = {"mop_write_dump_data", R(2) | R(9)},
     [WRITE_DUMP_COMPLETE] = {"mop_write_dump_complete", R(9)},
     [WRITE_VOLUNTEER] = {"mop_write_volunteer", R(9)},
-    [WRITE_PARAMETERS] = {"mop_write_parameters", R(4) | R(2) | R(9)},
+    [WRITE_PARAMETERS] = {"mop_write_parameters", R(10) | R(4) | R(2) | R(9)},
     [WRITE_LOOP] = {"mop_write_loop", R(2) | R(9)},
     [WRITE_LOOPED] = {"mop_write_looped", R(2) | R(9)},
     [IMAGE_CHECK] = {"mop_image_check", R(10) | IMAGE},
     [IMAGE_SEGMENT] = {"mop_image_segment", R(10) | IMAGE},
-    [MACHINE_START_LOAD] = {"mop_machine_start_load", R(10) | R(9)},
-    [MACHINE_START_DUMP] = {"mop_machine_start_dump", R(10) | R(9)},
-    [MACHINE_FRAME] = {"mop_machine_frame", R(10) | R(9) | FRAME},
-    [MACHINE_TIMER] = {"mop_machine_timer", R(10) | R(9)},
+    [MACHINE_START_LOAD] = {"mop_machine_start_load", R(10) | R(11) | R(9)},
+    [MACHINE_START_DUMP] = {"mop_machine_start_dump", R(10) | R(11) | R(9)},
+    [MACHINE_FRAME] = {"mop_machine_frame", R(10) | R(11) | R(9) | FRAME},
+    [MACHINE_TIMER] = {"mop_machine_timer", R(10) | R(11) | R(9)},
     [LOAD_START] = {"mop_load_start", 0},
     [LOAD_FRAME] = {"mop_load_frame", R(10) | R(9) | IMAGE | FRAME},
     [LOAD_TIMER] = {"mop_load_timer", R(10) | R(9) | IMAGE | R(4) | R(2)},
@@ -57,7 +57,8 @@ static const listed list[CALLS] = {
     [LOOP_TIMER] = {"mop_loop_timer", R(10) | R(9)},
 };
 
-static unsigned long seen[CALLS][11]; /* how often each answer came */
+static unsigned long
+    seen[CALLS][MOP_REFUSED_MEMORY + 1]; /* how often each answer came */
 static unsigned long total;
 static volatile sig_atomic_t current;
 static uint64_t seed;
@@ -82,7 +83,7 @@ void calling(enum call call)
 
 void called(unsigned refusal)
 {
-    demand(refusal <= 10, "a refusal above 10");
+    demand(refusal <= MOP_REFUSED_MEMORY, "a refusal above 11");
     demand(mop_refused_frame((uint8_t)refusal) == ((FRAME >> refusal & 1) != 0),
         "mop_refused_frame is wrong");
     seen[current][refusal]++;
@@ -104,7 +105,7 @@ static bool print_call(enum call call)
     const unsigned wanted = list[call].refusals | R(0);
     bool good = true;
     printf("  %-32s", list[call].name);
-    for (unsigned n = 0; n <= 10; n++) {
+    for (unsigned n = 0; n <= MOP_REFUSED_MEMORY; n++) {
         const bool came = seen[call][n] > 0, may = (wanted >> n & 1) != 0;
         if (came)
             printf(" %u:%lu", n, seen[call][n]);

@@ -28,8 +28,9 @@ static bool good_settings(const mop_dump_settings *s)
 {
     const uint64_t addresses = UINT64_C(1) << 32;
     return s->request_bytes >= 1 && s->request_bytes <= MOP_DUMP_DATA_MOST &&
-           s->repeats <= MOP_REPEATS_MOST && s->length >= 1 &&
-           s->length <= addresses && s->address <= addresses - s->length;
+           s->repeats <= MOP_REPEATS_MOST && is_version(s->version) &&
+           s->length >= 1 && s->length <= addresses &&
+           s->address <= addresses - s->length;
 }
 
 /* Whether the record is bad, with settings that are good. */
@@ -61,8 +62,10 @@ static unsigned wanted(const input *in)
         return MOP_REFUSED_RANGE;
     if (in->room < MOP_FRAME_MOST)
         return MOP_REFUSED_ROOM;
-    return is_timer(in) ? MOP_ACCEPTED
-                        : mop_read(in->frame, in->frame_length).refusal;
+    return is_timer(in)
+               ? MOP_ACCEPTED
+               : mop_read(in->settings.version, in->frame, in->frame_length)
+                     .refusal;
 }
 
 /* The record stands between guards too. */
@@ -112,7 +115,8 @@ static void check_buffer(const input *in, mop_dump after)
         demand(lent_same_from(&buffer, 0), "the buffer changed");
         return;
     }
-    const mop_fields f = mop_read(in->frame, in->frame_length);
+    const mop_fields f =
+        mop_read(in->settings.version, in->frame, in->frame_length);
     demand(after.filled == before + f.data_length, "another number filled");
     demand(lent_same_from(&buffer, (size_t)after.filled),
         "the buffer behind what came changed");
@@ -134,7 +138,8 @@ static void check_answer(const input *in, unsigned refusal, mop_dump_step step)
         demand(same(step.session, in->session), "neither taken nor ignored");
     check_buffer(in, step.session);
     if (step.answer.length > 0) {
-        const mop_fields f = mop_read(lent_bytes(&reply), step.answer.length);
+        const mop_fields f = mop_read(
+            in->settings.version, lent_bytes(&reply), step.answer.length);
         demand(
             f.refusal == MOP_ACCEPTED && (f.code == MOP_CODE_REQUEST_DUMP ||
                                              f.code == MOP_CODE_DUMP_COMPLETE),
@@ -189,6 +194,7 @@ static void any_settings(input *in)
     s->request_bytes =
         (uint32_t)(once_in(16) ? hostile() : 1 + below(once_in(2) ? 8 : 1495));
     s->repeats = (uint32_t)(once_in(16) ? hostile() : below(256));
+    s->version = any_version();
     s->address = (uint32_t)(once_in(4) ? hostile() : below(100000));
     if (once_in(8)) /* the range ends where the address space does */
         s->address = (uint32_t)((UINT64_C(1) << 32) - in->buffer_length);
@@ -269,5 +275,14 @@ void test_dump(void)
     for (unsigned i = 0; i < cases(200000); i++) {
         in.buffer_length = below(once_in(4) ? 4 * BEYOND : 60);
         check_any(&in);
+    }
+    for (int version = 0; version <= UINT8_MAX; version++) {
+        in.settings = (mop_dump_settings){.length = in.buffer_length = 8,
+            .request_bytes = 8,
+            .version = (uint8_t)version};
+        in.session = mop_dump_start();
+        in.room = any_room();
+        any_dump_frame(&in);
+        check_calls(&in);
     }
 }

@@ -20,7 +20,8 @@ static bool is_bad(const load_input *in)
     const mop_load_settings *s = &in->settings;
     const mop_load *h = &in->session;
     if (s->segment_size < 1 || s->segment_size > MOP_SEGMENT_MOST ||
-        s->repeats > MOP_REPEATS_MOST || s->with_parameters > 1)
+        s->repeats > MOP_REPEATS_MOST || s->with_parameters > 1 ||
+        !is_version(s->version))
         return true;
     if (h->verdict > MOP_LOAD_UNCONFIRMED || h->waiting > 1)
         return true;
@@ -41,7 +42,8 @@ static unsigned string_refusal(const load_input *in)
 {
     if (in->settings.with_parameters == 0)
         return MOP_ACCEPTED;
-    if (!good_entries(in->parameters, in->parameters_length))
+    if (!good_entries(
+            in->settings.version, in->parameters, in->parameters_length))
         return MOP_REFUSED_FIELD;
     return in->parameters_length > MOP_PARAMETERS_MOST ? MOP_REFUSED_LONG
                                                        : MOP_ACCEPTED;
@@ -64,8 +66,10 @@ unsigned load_refusal(const load_input *in)
         return MOP_REFUSED_RANGE;
     if (string_refusal(in) != MOP_ACCEPTED)
         return string_refusal(in);
-    return is_timer(in) ? MOP_ACCEPTED
-                        : mop_read(in->frame, in->frame_length).refusal;
+    return is_timer(in)
+               ? MOP_ACCEPTED
+               : mop_read(in->settings.version, in->frame, in->frame_length)
+                     .refusal;
 }
 
 /* The record stands between guards too. */
@@ -114,7 +118,7 @@ static void check_frame(const load_input *in, uint64_t position, size_t length)
 {
     const mop_image image = load_image(in);
     const uint8_t *bytes = lent_bytes(&reply);
-    const mop_fields f = mop_read(bytes, length);
+    const mop_fields f = mop_read(in->settings.version, bytes, length);
     const bool with = in->settings.with_parameters == 1;
     const uint64_t last = with ? image.segments : image.segments - 1;
     const unsigned code = position < last ? MOP_CODE_LOAD
@@ -204,6 +208,7 @@ static void any_settings(load_input *in)
 {
     random_bytes((uint8_t *)&in->settings, sizeof in->settings);
     in->settings.with_parameters = (uint8_t)(once_in(8) ? hostile() : below(2));
+    in->settings.version = any_version();
     any_string(in);
     in->settings.segment_size =
         (uint32_t)(once_in(8) ? hostile() : 1 + below(once_in(2) ? 8 : 1490));

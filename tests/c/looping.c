@@ -24,7 +24,8 @@ typedef struct input {
 static unsigned wanted(const input *in)
 {
     const uint32_t repeats = in->settings.repeats;
-    if (repeats > MOP_REPEATS_MOST || in->data_length > MOP_LOOP_DATA_MOST)
+    if (repeats > MOP_REPEATS_MOST || !is_version(in->settings.version) ||
+        in->data_length > MOP_LOOP_DATA_MOST)
         return MOP_REFUSED_RANGE;
     if (in->session.verdict > MOP_LOOP_GIVEN_UP)
         return MOP_REFUSED_RANGE;
@@ -35,7 +36,8 @@ static unsigned wanted(const input *in)
     if (in->room < MOP_FRAME_MOST)
         return MOP_REFUSED_ROOM;
     return in->call == LOOP_FRAME
-               ? mop_read(in->frame, in->frame_length).refusal
+               ? mop_read(in->settings.version, in->frame, in->frame_length)
+                     .refusal
                : MOP_ACCEPTED;
 }
 
@@ -69,7 +71,8 @@ static void check_answer(const input *in, unsigned refusal, mop_loop_step step)
     if (step.answer.length == 0 && step.session.verdict == in->session.verdict)
         demand(same(step.session, in->session), "neither taken nor ignored");
     if (step.answer.length > 0) {
-        const mop_fields f = mop_read(lent_bytes(&reply), step.answer.length);
+        const mop_fields f = mop_read(
+            in->settings.version, lent_bytes(&reply), step.answer.length);
         demand(f.code == MOP_CODE_LOOP && f.receipt == in->settings.receipt &&
                    f.data_length == in->data_length,
             "another frame");
@@ -103,6 +106,7 @@ static void any_numbers(input *in)
     random_bytes((uint8_t *)&in->settings, sizeof in->settings);
     random_bytes((uint8_t *)&in->session, sizeof in->session);
     in->settings.repeats = (uint32_t)(once_in(8) ? hostile() : below(256));
+    in->settings.version = any_version();
     const uint64_t most = (uint64_t)in->settings.repeats + 1;
     in->session.repeats = (uint32_t)(once_in(8) ? hostile() : below(most));
     in->session.sent = once_in(8) ? hostile() : below(most + 1);
@@ -150,4 +154,10 @@ void test_loop(void)
     for (unsigned i = 0; i < cases(120000); i++)
         check_any(once_in(2) ? LOOP_FRAME : each[below(3)],
             below(once_in(8) ? BEYOND : 40));
+    for (int i = 0; i < 3 * (UINT8_MAX + 1); i++) {
+        input in = {.call = each[i % 3], .room = any_room()};
+        in.settings.version = (uint8_t)(i / 3);
+        any_loop_frame(&in);
+        check_call(&in);
+    }
 }

@@ -20,18 +20,21 @@ static bool good_window(mop_window w)
 unsigned machine_refusal(const machine_input *in)
 {
     const uint32_t d = in->settings.reply_bytes;
+    const uint8_t version = in->settings.version;
     if (d < 1 || d > MOP_DUMP_DATA_MOST)
         return MOP_REFUSED_RANGE;
     if (in->memory_length > MOP_MEMORY_MOST)
         return MOP_REFUSED_RANGE;
     if (!good_window(in->settings.window))
         return MOP_REFUSED_RANGE;
-    if (in->machine.state > MOP_MACHINE_STARTED)
+    if (!is_version(version) || in->machine.state > MOP_MACHINE_STARTED)
         return MOP_REFUSED_RANGE;
+    if (version == MOP_VERSION_2_1 && in->memory_length < 64)
+        return MOP_REFUSED_MEMORY;
     if (in->room < MOP_FRAME_MOST)
         return MOP_REFUSED_ROOM;
     return in->call == MACHINE_FRAME
-               ? mop_read(in->frame, in->frame_length).refusal
+               ? mop_read(version, in->frame, in->frame_length).refusal
                : MOP_ACCEPTED;
 }
 
@@ -123,51 +126,101 @@ static void check_numbered(const machine_input *in, mop_fields f,
         "another reply");
 }
 
-/* A code 20 that is taken starts the machine and is kept, whatever stood
- * there. */
-static void check_parameters_frame(
-    const machine_input *in, mop_fields f, mop_machine_step step)
-{
-    const mop_machine started = {.transfer = f.transfer,
-        .state = MOP_MACHINE_STARTED,
-        .parameters = said(in->frame + f.data_at, f.data_length)};
-    demand(lent_same_from(&memory, 0), "parameters changed memory");
-    check_numbered(in, f, step, started, 0);
-}
-
-/* Whether the load fits: address by address, none is in the window. */
-static bool fits(const machine_input *in, mop_fields f)
+/* Whether so many bytes fit at an address: they are in memory and, address by
+ * address, none is in the window. */
+static bool fits(const machine_input *in, uint64_t first, size_t length)
 {
     const mop_window w = in->settings.window;
-    const uint64_t end = (uint64_t)f.address + f.data_length;
-    for (uint64_t address = f.address; address < end; address++)
+    const uint64_t end = first + length;
+    for (uint64_t address = first; address < end; address++)
         if (address >= w.start && address - w.start < w.length)
             return false;
     return end <= in->memory_length;
 }
 
-/* Whether memory is the old one with the frame's data laid over it. */
-static bool laid(const machine_input *in, mop_fields f)
+/* Whether memory is the old one with these bytes laid over it. */
+static bool laid(
+    const machine_input *in, size_t at, const uint8_t *bytes, size_t length)
 {
-    const uint8_t *now = lent_bytes(&memory), *data = in->frame + f.data_at;
-    return memcmp(now, in->memory, f.address) == 0 &&
-           memcmp(now + f.address, data, f.data_length) == 0 &&
-           lent_same_from(&memory, f.address + f.data_length);
+    const uint8_t *now = lent_bytes(&memory);
+    return memcmp(now, in->memory, at) == 0 &&
+           memcmp(now + at, bytes, length) == 0 &&
+           lent_same_from(&memory, at + length);
+}
+
+/* ---- The parameter block. */
+
+size_t block_at(size_t memory_length)
+{
+    return (memory_length + 1) / 2 * 2 - 64;
+}
+
+/* A name in it. What is not written is as it was. */
+static void block_name(uint8_t *to, const mop_value *name)
+{
+    for (size_t i = 0; i < (name->length > 0 ? 6 : 2); i++)
+        to[i] = (uint8_t)(i < name->length   ? name->bytes[i]
+                          : name->length > 0 ? ' '
+                                             : 0);
+}
+
+/* Whether memory is the old one with the block of these values over it. */
+static bool block_laid(const machine_input *in, const mop_parameters *p)
+{
+    const size_t at = block_at(in->memory_length);
+    uint8_t block[14];
+    memcpy(block, in->memory + at, sizeof block);
+    block[0] = p->target_address.bytes[0];
+    block[1] = p->target_address.bytes[1];
+    block_name(block + 2, &p->target_name);
+    block_name(block + 8, &p->host_name);
+    return laid(in, at, block, sizeof block);
+}
+
+/* ---- Frames. */
+
+/* What is taken and does not fit: the record then. */
+static mop_machine rejects(const machine_input *in, mop_fields f)
+{
+    return (mop_machine){.parameters = in->machine.parameters,
+        .state = MOP_MACHINE_LOADING,
+        .expected = (uint8_t)(f.number + 1),
+        .error = 1};
+}
+
+/* A code 20 that is taken and fits starts the machine and is kept, whatever
+ * stood there; under 2.1 its block is in memory. Of any other nothing is. */
+static void check_parameters_frame(
+    const machine_input *in, mop_fields f, mop_machine_step step)
+{
+    const bool old = in->settings.version == MOP_VERSION_2_1;
+    const bool good = !old || fits(in, block_at(in->memory_length), 14);
+    const mop_machine started = {.transfer = f.transfer,
+        .state = MOP_MACHINE_STARTED,
+        .parameters = said(in->frame + f.data_at, f.data_length)};
+    if (good && old && takes(in->machine, f.number))
+        demand(block_laid(in, &started.parameters),
+            "memory is not the old one with the block in it");
+    else
+        demand(lent_same_from(&memory, 0), "parameters changed memory");
+    check_numbered(in, f, step, good ? started : rejects(in, f), !good);
 }
 
 /* A load that is taken and fits is in memory; of any other nothing is. */
 static void check_load_frame(
     const machine_input *in, mop_fields f, mop_machine_step step)
 {
-    const bool good = fits(in, f);
+    const bool good = fits(in, f.address, f.data_length);
     const bool starts = good && f.code == MOP_CODE_LOAD_TRANSFER;
-    mop_machine next = {.parameters = in->machine.parameters};
-    next.state = starts ? MOP_MACHINE_STARTED : MOP_MACHINE_LOADING;
-    next.transfer = starts ? f.transfer : 0;
-    next.expected = (uint8_t)(starts ? 0 : f.number + 1);
+    mop_machine next = rejects(in, f);
     next.error = !good;
+    if (starts)
+        next = (mop_machine){.parameters = in->machine.parameters,
+            .state = MOP_MACHINE_STARTED,
+            .transfer = f.transfer};
     if (good && takes(in->machine, f.number))
-        demand(laid(in, f), "memory is not the old one with the load in it");
+        demand(laid(in, f.address, in->frame + f.data_at, f.data_length),
+            "memory is not the old one with the load in it");
     else
         demand(
             lent_same_from(&memory, 0), "memory changed, and no load is in it");
@@ -201,7 +254,8 @@ static void check_read_frame(
 /* Nothing else changes what it keeps. */
 static void check_frame(const machine_input *in, mop_machine_step step)
 {
-    const mop_fields f = mop_read(in->frame, in->frame_length);
+    const mop_fields f =
+        mop_read(in->settings.version, in->frame, in->frame_length);
     if (f.code == MOP_CODE_PARAMETERS)
         check_parameters_frame(in, f, step);
     else
@@ -233,7 +287,9 @@ static void check_answer(
         demand(same(step.machine, in->machine) && lent_same_from(&memory, 0),
             "neither taken nor ignored");
     if (step.answer.length > 0)
-        demand(mop_read(lent_bytes(&reply), step.answer.length).refusal == 0,
+        demand(mop_read(
+                   in->settings.version, lent_bytes(&reply), step.answer.length)
+                       .refusal == 0,
             "a reply that can't be read");
 }
 
@@ -261,6 +317,11 @@ mop_machine_step machine_check(machine_input *in)
     return steps[0];
 }
 
+const uint8_t *machine_memory(void)
+{
+    return lent_bytes(&memory);
+}
+
 /* A window in memory or near its end, none, or any. */
 static mop_window any_window(size_t memory_length)
 {
@@ -279,6 +340,7 @@ static void any_numbers(machine_input *in)
     in->settings.reply_bytes =
         (uint32_t)(once_in(8) ? hostile() : 1 + below(MOP_DUMP_DATA_MOST));
     in->settings.window = any_window(in->memory_length);
+    in->settings.version = any_version();
     in->machine.state = (uint8_t)(once_in(16) ? hostile() : below(5));
     in->room = any_room();
 }
@@ -311,65 +373,52 @@ static void check_any(const uint8_t *bytes, size_t length, enum call call)
 
 /* ---- Parameters. */
 
-/* Lays an entry, whose value are these letters, behind the others. */
-static void lay(machine_input *in, uint8_t type, const char *letters)
+mop_machine_step kept(
+    machine_input *in, mop_machine_settings settings, const entry *entries)
 {
-    const size_t length = strlen(letters);
-    in->frame[in->frame_length++] = type;
-    in->frame[in->frame_length++] = (uint8_t)length;
-    memcpy(in->frame + in->frame_length, letters, length);
-    in->frame_length += length;
-}
-
-/* A code 20 that is taken, with the entries that lay_entries lays: its end. */
-static mop_machine_step kept(
-    machine_input *in, void (*lay_entries)(machine_input *in))
-{
+    uint8_t *to = in->frame;
     in->call = MACHINE_FRAME;
-    in->settings = (mop_machine_settings){.reply_bytes = 1};
+    in->settings = settings;
     in->room = MOP_FRAME_MOST;
-    in->frame[0] = MOP_CODE_PARAMETERS;
-    in->frame[1] = 0;
-    in->frame_length = 2;
-    lay_entries(in);
-    in->frame[in->frame_length] = 0;
-    put32(in->frame + in->frame_length + 1, 0x01020304);
-    in->frame_length += 5;
+    *to++ = MOP_CODE_PARAMETERS;
+    *to++ = 0;
+    for (; entries->type != 0; entries++) {
+        const size_t length = strlen(entries->letters);
+        *to++ = entries->type;
+        *to++ = (uint8_t)length;
+        memcpy(to, entries->letters, length);
+        to += length;
+    }
+    *to++ = 0;
+    put32(to, 0x01020304);
+    in->frame_length = (size_t)(to + 4 - in->frame);
     return machine_check(in);
 }
 
-static void lay_all(machine_input *in)
-{
-    lay(in, MOP_ENTRY_TARGET_NAME, "ABCDEFGHIJKLMNOP");
-    lay(in, MOP_ENTRY_TARGET_ADDRESS, "abcdef");
-    lay(in, MOP_ENTRY_HOST_NAME, "QRSTUVWXYZ012345");
-    lay(in, MOP_ENTRY_HOST_ADDRESS, "ghijkl");
-    lay(in, MOP_ENTRY_HOST_TIME, "\x13\x55\x03\x1F\x17\x3B\x3B\x63\xFB\xE2");
-}
+static const entry all_entries[] = {{MOP_ENTRY_TARGET_NAME, "ABCDEFGHIJKLMNOP"},
+    {MOP_ENTRY_TARGET_ADDRESS, "abcdef"},
+    {MOP_ENTRY_HOST_NAME, "QRSTUVWXYZ012345"},
+    {MOP_ENTRY_HOST_ADDRESS, "ghijkl"},
+    {MOP_ENTRY_HOST_TIME, "\x13\x55\x03\x1F\x17\x3B\x3B\x63\xFB\xE2"},
+    {0, NULL}};
 
-static void lay_nothing(machine_input *in)
-{
-    (void)in;
-}
+static const entry no_entries[] = {{0, NULL}};
 
 /* Types more than once and in any order, the shorter value last. */
-static void lay_again(machine_input *in)
-{
-    lay(in, MOP_ENTRY_HOST_NAME, "QRSTUVWXYZ012345");
-    lay(in, MOP_ENTRY_TARGET_ADDRESS, "abcdef");
-    lay(in, MOP_ENTRY_TARGET_ADDRESS, "m");
-    lay(in, MOP_ENTRY_HOST_NAME, "");
-    lay(in, MOP_ENTRY_TARGET_NAME, "N");
-    lay(in, MOP_ENTRY_TARGET_NAME, "OP");
-}
+static const entry entries_again[] = {{MOP_ENTRY_HOST_NAME, "QRSTUVWXYZ012345"},
+    {MOP_ENTRY_TARGET_ADDRESS, "abcdef"}, {MOP_ENTRY_TARGET_ADDRESS, "m"},
+    {MOP_ENTRY_HOST_NAME, ""}, {MOP_ENTRY_TARGET_NAME, "N"},
+    {MOP_ENTRY_TARGET_NAME, "OP"}, {0, NULL}};
 
 /* What is kept, over a record that keeps longer values. */
 static void check_parameters(void)
 {
+    static const mop_machine_settings s = {
+        .reply_bytes = 1, .version = MOP_VERSION_3_0};
     static machine_input in;
     const mop_parameters none = {0}, again = {.target_name = {2, {'O', 'P'}},
                                          .target_address = {1, {'m'}}};
-    const mop_parameters all = kept(&in, lay_all).machine.parameters;
+    const mop_parameters all = kept(&in, s, all_entries).machine.parameters;
     demand(all.target_name.length == 16 && all.target_name.bytes[15] == 'P' &&
                all.target_address.length == 6 &&
                all.target_address.bytes[5] == 'f' &&
@@ -379,9 +428,9 @@ static void check_parameters(void)
                all.host_time.bytes[9] == 0xE2,
         "not what was given");
     in.machine = (mop_machine){.parameters = all};
-    const mop_parameters twice = kept(&in, lay_again).machine.parameters;
+    const mop_parameters twice = kept(&in, s, entries_again).machine.parameters;
     demand(same_parameters(&twice, &again), "not the last values alone");
-    const mop_parameters nothing = kept(&in, lay_nothing).machine.parameters;
+    const mop_parameters nothing = kept(&in, s, no_entries).machine.parameters;
     demand(same_parameters(&nothing, &none), "values that were not given");
 }
 
@@ -397,6 +446,12 @@ static void check_longest(void)
     for (unsigned i = 0; i < cases(40); i++)
         check_any(bytes, MOP_MEMORY_MOST + i % 2, each[i / 2 % 4]);
     free(bytes);
+}
+
+/* Often on both sides of 64. */
+static size_t any_memory(size_t most)
+{
+    return once_in(8) ? below(most) : once_in(2) ? below(100) : 60 + below(40);
 }
 
 void test_machine(void)
@@ -418,7 +473,7 @@ void test_machine(void)
         }
     }
     for (unsigned i = 0; i < cases(200000); i++)
-        check_any(bytes, below(once_in(8) ? sizeof bytes : 100),
+        check_any(bytes, any_memory(sizeof bytes),
             once_in(8) ? each[below(4)] : MACHINE_FRAME);
     check_parameters();
     check_longest();

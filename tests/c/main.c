@@ -21,6 +21,7 @@ int main(int argc, char **argv)
     test_images();
     test_machine();
     test_windows();
+    test_blocks();
     test_load();
     test_strings();
     test_dump();

@@ -3,6 +3,7 @@
 #include <string.h>
 
 #include "check.h"
+#include "mop.h"
 
 const uint8_t codes[CODES] = {0, 1, 2, 3, 4, 8, 10, 12, 14, 20, 24, 26};
 
@@ -44,6 +45,20 @@ void put32(uint8_t *to, uint64_t number)
         to[i] = (uint8_t)(number >> 8 * i);
 }
 
+/* ---- Versions. */
+
+bool is_version(uint8_t version)
+{
+    return version == MOP_VERSION_2_1 || version == MOP_VERSION_3_0;
+}
+
+uint8_t any_version(void)
+{
+    if (once_in(16))
+        return (uint8_t)(once_in(2) ? hostile() : 20 + below(12));
+    return once_in(2) ? MOP_VERSION_2_1 : MOP_VERSION_3_0;
+}
+
 /* ---- Entries. */
 
 static const uint8_t time_least[8] = {0, 0, 1, 1, 0, 0, 0, 0};
@@ -54,32 +69,42 @@ static int twos_complement(uint8_t byte)
     return byte < 128 ? byte : byte - 256;
 }
 
+bool good_time_byte(const uint8_t time[10], int at)
+{
+    const int number = twos_complement(time[at]);
+    if (at < 8)
+        return time[at] >= time_least[at] && time[at] <= time_most[at];
+    if (at == 8)
+        return number >= -12 && number <= 13;
+    const int hours = twos_complement(time[8]);
+    return number >= -59 && number <= 59 && !(hours < 0 && number > 0) &&
+           !(hours > 0 && number < 0);
+}
+
 static bool good_time(const uint8_t time[10])
 {
-    const int hours = twos_complement(time[8]);
-    const int minutes = twos_complement(time[9]);
-    for (int i = 0; i < 8; i++)
-        if (time[i] < time_least[i] || time[i] > time_most[i])
+    for (int i = 0; i < 10; i++)
+        if (!good_time_byte(time, i))
             return false;
-    if (hours < -12 || hours > 13 || minutes < -59 || minutes > 59)
-        return false;
-    return !(hours < 0 && minutes > 0) && !(hours > 0 && minutes < 0);
+    return true;
 }
 
-static bool good_entry(uint8_t type, uint8_t length)
+bool good_entry(uint8_t version, uint8_t type, uint8_t length)
 {
+    const bool old = version == MOP_VERSION_2_1;
     if (type == 1 || type == 3)
-        return length <= 16;
+        return length <= (old ? 6 : 16);
     if (type == 2 || type == 4)
-        return length <= 6;
-    return type == 5 && length == 10;
+        return length <= (old ? 2 : 6);
+    return type == 5 && length == 10 && !old;
 }
 
-bool good_entries(const uint8_t *entries, size_t length)
+bool good_entries(uint8_t version, const uint8_t *entries, size_t length)
 {
     size_t at = 0;
     while (at < length) {
-        if (length - at < 2 || !good_entry(entries[at], entries[at + 1]))
+        if (length - at < 2 ||
+            !good_entry(version, entries[at], entries[at + 1]))
             return false;
         if (length - at - 2 < entries[at + 1])
             return false;
@@ -102,14 +127,14 @@ static void make_time(uint8_t time[10])
 
 size_t make_entries(uint8_t *to, size_t most)
 {
-    const bool full = once_in(3);
+    const bool full = once_in(3), old = once_in(2);
     size_t length = 0;
     while (most - length >= 18 && (full || !once_in(6))) {
         uint8_t *entry = to + length;
-        entry[0] = (uint8_t)(1 + below(5));
+        entry[0] = (uint8_t)(1 + below(old ? 4 : 5));
         entry[1] = (uint8_t)(entry[0] == 5       ? 10
-                             : entry[0] % 2 == 1 ? below(17)
-                                                 : below(7));
+                             : entry[0] % 2 == 1 ? below(old ? 7 : 17)
+                                                 : below(old ? 3 : 7));
         random_bytes(entry + 2, entry[1]);
         if (entry[0] == 5)
             make_time(entry + 2);

@@ -21,9 +21,18 @@ bool is_exact(uint8_t code);
 size_t id_bytes(uint8_t form);
 bool is_form(uint8_t form);
 
-/* Whether a string of code 20's entries keeps the rules. */
-bool good_entries(const uint8_t *entries, size_t length);
-/* Such a string of at most so many bytes: its length. */
+/* Whether this is a version, and one that mostly is. */
+bool is_version(uint8_t version);
+uint8_t any_version(void);
+
+/* Whether an entry of code 20 may have this type and length under a version,
+ * and whether a byte of a time may stand behind those before it. */
+bool good_entry(uint8_t version, uint8_t type, uint8_t length);
+bool good_time_byte(const uint8_t time[10], int at);
+/* Whether a string of entries keeps the rules. */
+bool good_entries(uint8_t version, const uint8_t *entries, size_t length);
+/* A string of at most so many bytes that keeps the rules of 3.0.0, often those
+ * of 2.1 too: its length. */
 size_t make_entries(uint8_t *to, size_t most);
 
 /* A good frame of a listed code, and any frame, often a damaged one. */

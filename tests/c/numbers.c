@@ -8,6 +8,9 @@
 
 static uint8_t out[MOP_FRAME_MOST], large[MOP_FILE_MOST + 2];
 
+/* The version where it plays no part. */
+enum { VERSION = MOP_VERSION_3_0 };
+
 static void demand(int holds, const char *what)
 {
     if (holds)
@@ -20,7 +23,7 @@ static void demand(int holds, const char *what)
 
 static void is_code(mop_written w, uint8_t code)
 {
-    const mop_fields f = mop_read(out, w.length);
+    const mop_fields f = mop_read(VERSION, out, w.length);
     demand(w.refusal == MOP_ACCEPTED && f.refusal == MOP_ACCEPTED &&
                f.code == code && out[0] == code,
         "a writer's code");
@@ -41,7 +44,8 @@ static void test_codes(void)
     is_code(mop_write_request_dump_service(0, 0, 0, 0, NULL, 0, out, n),
         MOP_CODE_REQUEST_DUMP_SERVICE);
     is_code(mop_write_dump_data(0, NULL, 0, out, n), MOP_CODE_DUMP_DATA);
-    is_code(mop_write_parameters(0, NULL, 0, 0, out, n), MOP_CODE_PARAMETERS);
+    is_code(mop_write_parameters(VERSION, 0, NULL, 0, 0, out, n),
+        MOP_CODE_PARAMETERS);
     is_code(mop_write_loop(0, NULL, 0, out, n), MOP_CODE_LOOP);
     is_code(mop_write_looped(0, NULL, 0, out, n), MOP_CODE_LOOPED);
 }
@@ -104,10 +108,13 @@ static void test_frames(void)
 {
     const uint8_t unknown = 255, long_one[] = {1, 0};
     const size_t most = MOP_FRAME_MOST - 5;
-    demand(mop_read(NULL, 0).refusal == MOP_REFUSED_SHORT, "an empty frame");
-    demand(mop_read(long_one, 2).refusal == MOP_REFUSED_LONG, "a long frame");
-    demand(mop_read(&unknown, 1).refusal == MOP_REFUSED_CODE, "a code");
-    demand(mop_read(&unknown, 1).code == MOP_CODE_NONE, "no code");
+    demand(mop_read(VERSION, NULL, 0).refusal == MOP_REFUSED_SHORT,
+        "an empty frame");
+    demand(mop_read(VERSION, long_one, 2).refusal == MOP_REFUSED_LONG,
+        "a long frame");
+    demand(
+        mop_read(VERSION, &unknown, 1).refusal == MOP_REFUSED_CODE, "a code");
+    demand(mop_read(VERSION, &unknown, 1).code == MOP_CODE_NONE, "no code");
     demand(
         mop_write_dump_complete(out, 0).refusal == MOP_REFUSED_ROOM, "no room");
     demand(
@@ -146,7 +153,7 @@ static void test_ethernet(void)
         mop_write_loop(0, large, MOP_ETHERNET_LOOP_DATA_MOST, out, n).length;
     const size_t string = make_string(MOP_ETHERNET_PARAMETERS_MOST);
     const size_t parameters =
-        mop_write_parameters(0, large, string, 0, out, n).length;
+        mop_write_parameters(VERSION, 0, large, string, 0, out, n).length;
     demand(load == left && data == left && loop == left && parameters == left &&
                MOP_ETHERNET_FRAME_MOST == left,
         "a limit on Ethernet");
@@ -154,21 +161,23 @@ static void test_ethernet(void)
 
 static int machine_refusal(uint32_t reply_bytes, size_t memory_length)
 {
-    const mop_machine_settings s = {.reply_bytes = reply_bytes};
+    const mop_machine_settings s = {
+        .reply_bytes = reply_bytes, .version = VERSION};
     return mop_machine_start_dump(s, large, memory_length, out, sizeof out)
         .answer.refusal;
 }
 
 static int window_refusal(uint64_t start, uint64_t length)
 {
-    const mop_machine_settings s = {
-        .reply_bytes = 1, .window = {.start = start, .length = length}};
+    const mop_machine_settings s = {.reply_bytes = 1,
+        .version = VERSION,
+        .window = {.start = start, .length = length}};
     return mop_machine_start_load(s, large, 1, out, sizeof out).answer.refusal;
 }
 
 static int loop_refusal(uint32_t repeats, size_t data_length)
 {
-    const mop_loop_settings s = {.repeats = repeats};
+    const mop_loop_settings s = {.repeats = repeats, .version = VERSION};
     return mop_loop_start(s, large, data_length, out, sizeof out)
         .answer.refusal;
 }
@@ -177,7 +186,8 @@ static int loop_refusal(uint32_t repeats, size_t data_length)
 static int load_refusal(size_t string_length)
 {
     static uint8_t string[2 * MOP_FRAME_MOST];
-    const mop_load_settings s = {.segment_size = 1, .with_parameters = 1};
+    const mop_load_settings s = {
+        .segment_size = 1, .with_parameters = 1, .version = VERSION};
     memcpy(string, large, make_string(string_length));
     make_image(100, 1);
     return mop_load_timer(
@@ -253,13 +263,18 @@ static void test_programs(void)
         "the forms of a system");
 }
 
-/* Whether an entry of this type may have so many bytes. */
-static int may(uint8_t type, uint8_t length)
+/* Whether an entry of this type may have so many bytes under a version. */
+static int may_under(uint8_t version, uint8_t type, uint8_t length)
 {
     const uint8_t entry[2 + 255] = {type, length, 20, 26, 11, 16};
     return mop_write_parameters(
-               0, entry, 2 + (size_t)length, 0, out, sizeof out)
+               version, 0, entry, 2 + (size_t)length, 0, out, sizeof out)
                .refusal == MOP_ACCEPTED;
+}
+
+static int may(uint8_t type, uint8_t length)
+{
+    return may_under(VERSION, type, length);
 }
 
 static void test_entries(void)
@@ -280,11 +295,78 @@ static void test_entries(void)
         "the time");
 }
 
+/* ---- Versions, and the parameter block of 2.1. */
+
+/* A value of this type has at most so many bytes under 2.1. */
+static int most_2_1(uint8_t type, uint8_t most)
+{
+    return may_under(MOP_VERSION_2_1, type, most) &&
+           !may_under(MOP_VERSION_2_1, type, most + 1);
+}
+
+static void test_versions(void)
+{
+    const uint8_t time[] = {
+        MOP_ENTRY_HOST_TIME, 10, 20, 26, 1, 1, 0, 0, 0, 0, 0, 0};
+    const size_t n = sizeof time;
+    demand(mop_write_parameters(MOP_VERSION_2_1, 0, time, n, 0, out, sizeof out)
+                       .refusal == MOP_REFUSED_FIELD &&
+               mop_write_parameters(
+                   MOP_VERSION_3_0, 0, time, n, 0, out, sizeof out)
+                       .refusal == MOP_ACCEPTED,
+        "the versions");
+    demand(most_2_1(MOP_ENTRY_TARGET_NAME, MOP_NAME_MOST_2_1) &&
+               most_2_1(MOP_ENTRY_HOST_NAME, MOP_NAME_MOST_2_1),
+        "the names of 2.1");
+    demand(most_2_1(MOP_ENTRY_TARGET_ADDRESS, MOP_ADDRESS_MOST_2_1) &&
+               most_2_1(MOP_ENTRY_HOST_ADDRESS, MOP_ADDRESS_MOST_2_1),
+        "the addresses of 2.1");
+}
+
+/* A code 20 without entries to a machine with so many bytes of memory, whose
+ * window is one byte: the error in its reply, or the refusal and 16. */
+static int block_answer(uint8_t *memory, size_t length, uint64_t window)
+{
+    const mop_machine_settings s = {.reply_bytes = 1,
+        .version = MOP_VERSION_2_1,
+        .window = {.start = window, .length = 1}};
+    const mop_machine m = {.state = MOP_MACHINE_REQUESTING};
+    uint8_t frame[MOP_FRAME_MOST];
+    const size_t n =
+        mop_write_parameters(s.version, 0, NULL, 0, 0, frame, sizeof frame)
+            .length;
+    const mop_machine_step step =
+        mop_machine_frame(s, m, frame, n, memory, length, out, sizeof out);
+    return step.answer.refusal == MOP_ACCEPTED ? out[2]
+                                               : 16 + step.answer.refusal;
+}
+
+static void test_block(void)
+{
+    enum { LENGTH = 200, FAR = 1000 };
+    uint8_t memory[LENGTH];
+    size_t at = 0;
+    demand(block_answer(memory, MOP_BLOCK_MEMORY_LEAST, FAR) == 0 &&
+               block_answer(memory, MOP_BLOCK_MEMORY_LEAST - 1, FAR) ==
+                   16 + MOP_REFUSED_MEMORY,
+        "the least memory of version 2.1");
+    memset(memory, 1, sizeof memory);
+    block_answer(memory, LENGTH, FAR);
+    while (at < LENGTH && memory[at] == 1)
+        at++;
+    demand(at == LENGTH - MOP_BLOCK_BELOW_TOP, "where the block begins");
+    demand(block_answer(memory, LENGTH, at - 1) == 0 &&
+               block_answer(memory, LENGTH, at) == 1 &&
+               block_answer(memory, LENGTH, at + MOP_BLOCK_BYTES - 1) == 1 &&
+               block_answer(memory, LENGTH, at + MOP_BLOCK_BYTES) == 0,
+        "the block's length");
+}
+
 /* ---- States and verdicts. */
 
 static void test_states(void)
 {
-    const mop_machine_settings s = {.reply_bytes = 1};
+    const mop_machine_settings s = {.reply_bytes = 1, .version = VERSION};
     uint8_t frame[MOP_FRAME_MOST], memory[8] = {0};
     const size_t n = sizeof frame;
     mop_machine m =
@@ -299,8 +381,8 @@ static void test_states(void)
     m = mop_machine_start_load(s, memory, sizeof memory, out, sizeof out)
             .machine;
     demand(m.state == MOP_MACHINE_REQUESTING &&
-               mop_read(out, 6).program == MOP_PROGRAM_SYSTEM &&
-               mop_read(out, 6).form == MOP_FORM_STANDARD,
+               mop_read(VERSION, out, 6).program == MOP_PROGRAM_SYSTEM &&
+               mop_read(VERSION, out, 6).form == MOP_FORM_STANDARD,
         "Requesting");
     length = mop_write_load(0, 0, large, 1, frame, n).length;
     m = mop_machine_frame(
@@ -318,7 +400,7 @@ static void test_states(void)
  * answers and, if the error is not 0, one with that error, else a timer. */
 static int loaded(int answers, uint8_t error)
 {
-    const mop_load_settings s = {.segment_size = 1};
+    const mop_load_settings s = {.segment_size = 1, .version = VERSION};
     mop_load h = mop_load_start();
     uint8_t frame[MOP_FRAME_MOST];
     const size_t n = sizeof frame;
@@ -347,7 +429,8 @@ static int loaded(int answers, uint8_t error)
 /* A dump of one byte: the verdict after its byte, or after a timer. */
 static int dumped(int comes)
 {
-    const mop_dump_settings s = {.length = 1, .request_bytes = 1};
+    const mop_dump_settings s = {
+        .length = 1, .request_bytes = 1, .version = VERSION};
     mop_dump h = mop_dump_start();
     uint8_t frame[MOP_FRAME_MOST], buffer[1] = {0};
     const size_t n = sizeof frame;
@@ -366,7 +449,7 @@ static int dumped(int comes)
 /* A loop test: the verdict after this frame, or after a timer. */
 static int looped(mop_written came, const uint8_t *frame)
 {
-    const mop_loop_settings s = {.receipt = 7};
+    const mop_loop_settings s = {.receipt = 7, .version = VERSION};
     const mop_loop h = mop_loop_start(s, large, 1, out, sizeof out).session;
     demand(h.verdict == MOP_LOOP_OPEN, "a loop test that begins");
     if (came.length == 0)
@@ -405,6 +488,8 @@ int main(void)
     test_settings();
     test_windows();
     test_programs();
+    test_versions();
+    test_block();
     test_states();
     test_verdicts();
     return 0;

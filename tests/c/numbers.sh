@@ -19,6 +19,6 @@ while read -r name _ number; do
             found=$((found + 1))
         fi
     done
-done < <(grep -oE '^    MOP_[A-Z_]+ = [0-9]+' include/mop.h)
+done < <(grep -oE '^    MOP_[A-Z0-9_]+ = [0-9]+' include/mop.h)
 echo "numbers: $found of $all wrong numbers found"
 [ "$found" = "$all" ]

@@ -8,7 +8,8 @@
 
 #include "page.inc"
 
-static const mop_machine_settings ours = {.reply_bytes = 100};
+static const mop_machine_settings ours = {
+    .reply_bytes = 100, .version = MOP_VERSION_3_0};
 static uint8_t memory[5000];
 static mop_machine machine;
 static uint8_t coming[MOP_FRAME_MOST]; /* the frame on its way to the host */

@@ -8,13 +8,15 @@
 #include "tests.h"
 
 static load_input in;
+static uint8_t version; /* of the loads that follow */
 
 /* A load that is under way, and ends with a string of these entries. */
 static void give(const uint8_t *entries, size_t length)
 {
     in.file_length = make_image(in.file);
-    in.settings = (mop_load_settings){
-        .segment_size = MOP_SEGMENT_MOST, .with_parameters = 1};
+    in.settings = (mop_load_settings){.segment_size = MOP_SEGMENT_MOST,
+        .with_parameters = 1,
+        .version = version};
     in.session = (mop_load){.sent = 1};
     if (length > 0)
         memcpy(in.parameters, entries, length);
@@ -50,6 +52,9 @@ static void check_order(unsigned refusal)
     check_each(MOP_REFUSED_FILE);
     in.room = MOP_FRAME_MOST - 1;
     check_each(MOP_REFUSED_ROOM);
+    in.settings.version = 0;
+    check_each(MOP_REFUSED_RANGE);
+    in.settings.version = version;
     in.settings.with_parameters = 2;
     check_each(MOP_REFUSED_RANGE);
 }
@@ -86,18 +91,25 @@ static void check_entry(const uint8_t *entry, size_t length, int step)
         check_bad(entry, cut, MOP_REFUSED_FIELD);
 }
 
-/* Every value at its bounds. */
+/* Every value at its bounds; version 2.1 has no time. */
 static void check_entries(void)
 {
     static const uint8_t least[12] = {
         MOP_ENTRY_HOST_TIME, 10, 0, 0, 1, 1, 0, 0, 0, 0, 0xF4, 0xC5};
     static const uint8_t most[12] = {
         MOP_ENTRY_HOST_TIME, 10, 127, 100, 12, 31, 23, 59, 59, 99, 13, 59};
+    const bool old = version == MOP_VERSION_2_1;
     uint8_t signs[12];
     for (int type = 1; type < MOP_ENTRY_HOST_TIME; type++) {
-        const uint8_t length = type % 2 == 1 ? 16 : 6;
+        const uint8_t name = old ? 6 : 16, address = old ? 2 : 6;
+        const uint8_t length = type % 2 == 1 ? name : address;
         const uint8_t entry[18] = {(uint8_t)type, length};
         check_entry(entry, 2 + (size_t)length, 1);
+    }
+    if (old) {
+        check_bad(least, sizeof least, MOP_REFUSED_FIELD);
+        check_bad(most, sizeof most, MOP_REFUSED_FIELD);
+        return;
     }
     check_entry(least, sizeof least, -1);
     check_entry(most, sizeof most, 1);
@@ -109,9 +121,12 @@ static void check_entries(void)
 /* A string of so many bytes, all names. */
 static size_t make_names(uint8_t *to, size_t length)
 {
+    const size_t most = version == MOP_VERSION_2_1 ? 8 : 18;
     for (size_t at = 0; at < length;) {
         const size_t left = length - at;
-        const size_t entry = left <= 18 ? left : left == 19 ? 17 : 18;
+        const size_t entry = left <= most       ? left
+                             : left == most + 1 ? most - 1
+                                                : most;
         random_bytes(to + at, entry);
         to[at] = MOP_ENTRY_TARGET_NAME;
         to[at + 1] = (uint8_t)(entry - 2);
@@ -146,8 +161,8 @@ static void check_whole(size_t n, uint8_t with)
     static uint8_t names[MOP_PARAMETERS_MOST];
     give(names, make_names(names, sizeof names));
     in.file_length = make_one_region(in.file, n);
-    in.settings =
-        (mop_load_settings){.segment_size = 1, .with_parameters = with};
+    in.settings.segment_size = 1;
+    in.settings.with_parameters = with;
     in.session = (mop_load){.waiting = 1};
     in.frame_length = make_frame(MOP_CODE_REQUEST_PROGRAM, in.frame);
     in.frame[3] = MOP_PROGRAM_SYSTEM;
@@ -172,8 +187,8 @@ static void check_silence(size_t n, size_t position, uint8_t with)
 {
     give(NULL, 0);
     in.file_length = make_one_region(in.file, n);
-    in.settings =
-        (mop_load_settings){.segment_size = 1, .with_parameters = with};
+    in.settings.segment_size = 1;
+    in.settings.with_parameters = with;
     in.session = (mop_load){.position = position, .sent = position + 1};
     in.call = once_in(2) ? LOAD_TIMER : LOAD_UPDATE_TIMER;
     demand(load_check(&in).session.verdict == (position + 1 < n + with
@@ -182,9 +197,22 @@ static void check_silence(size_t n, size_t position, uint8_t with)
         "another verdict");
 }
 
-void test_strings(void)
+/* Any other version is refused before the reply buffer is. */
+static void check_versions(void)
+{
+    give(NULL, 0);
+    in.room = 0;
+    for (int any = 0; any <= UINT8_MAX; any++) {
+        in.settings.version = (uint8_t)any;
+        check_each(
+            is_version((uint8_t)any) ? MOP_REFUSED_ROOM : MOP_REFUSED_RANGE);
+    }
+}
+
+static void check_version(uint8_t of)
 {
     static const size_t counts[] = {1, 2, 255, 256, 257, 512};
+    version = of;
     check_entries();
     check_lengths();
     for (size_t i = 0; i < sizeof counts / sizeof counts[0]; i++)
@@ -193,4 +221,11 @@ void test_strings(void)
             for (size_t c = 0; c < counts[i] + with; c++)
                 check_silence(counts[i], c, with);
         }
+}
+
+void test_strings(void)
+{
+    check_version(MOP_VERSION_2_1);
+    check_version(MOP_VERSION_3_0);
+    check_versions();
 }

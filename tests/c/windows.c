@@ -15,7 +15,8 @@ static uint8_t bytes[LARGE];
 /* Nothing but the window can be refused. */
 static void give(mop_window window, size_t memory_length)
 {
-    in.settings = (mop_machine_settings){.reply_bytes = 8, .window = window};
+    in.settings = (mop_machine_settings){
+        .reply_bytes = 8, .version = MOP_VERSION_3_0, .window = window};
     in.machine = (mop_machine){.state = MOP_MACHINE_REQUESTING};
     in.memory = bytes;
     in.memory_length = memory_length;

@@ -27,8 +27,8 @@ static enum call writer(uint8_t code)
 }
 
 /* The codes without an id. */
-static mop_written write_plain(const mop_fields *f, const uint8_t *bytes,
-    size_t length, uint8_t *to, size_t room)
+static mop_written write_plain(uint8_t version, const mop_fields *f,
+    const uint8_t *bytes, size_t length, uint8_t *to, size_t room)
 {
     switch (f->code) {
     case MOP_CODE_LOAD_TRANSFER:
@@ -51,7 +51,7 @@ static mop_written write_plain(const mop_fields *f, const uint8_t *bytes,
         return mop_write_volunteer(to, room);
     case MOP_CODE_PARAMETERS:
         return mop_write_parameters(
-            f->number, bytes, length, f->transfer, to, room);
+            version, f->number, bytes, length, f->transfer, to, room);
     case MOP_CODE_LOOP:
         return mop_write_loop(f->receipt, bytes, length, to, room);
     default:
@@ -59,9 +59,9 @@ static mop_written write_plain(const mop_fields *f, const uint8_t *bytes,
     }
 }
 
-mop_written write_frame(const mop_fields *f, const uint8_t *bytes,
-    size_t length, const uint8_t *name, size_t name_length, uint8_t *to,
-    size_t room)
+mop_written write_frame(uint8_t version, const mop_fields *f,
+    const uint8_t *bytes, size_t length, const uint8_t *name,
+    size_t name_length, uint8_t *to, size_t room)
 {
     calling(writer(f->code));
     const mop_written answer =
@@ -69,19 +69,23 @@ mop_written write_frame(const mop_fields *f, const uint8_t *bytes,
             ? mop_write_request_program(f->device, f->format, f->program,
                   f->form, name, name_length, f->processor, bytes, length, to,
                   room)
-            : write_plain(f, bytes, length, to, room);
+            : write_plain(version, f, bytes, length, to, room);
     called(answer.refusal);
     return answer;
 }
 
 /* The header's refusal, in its order. */
-static unsigned wanted(const mop_fields *f, const uint8_t *bytes, size_t room)
+static unsigned wanted(
+    uint8_t version, const mop_fields *f, const uint8_t *bytes, size_t room)
 {
+    if (f->code == MOP_CODE_PARAMETERS && !is_version(version))
+        return MOP_REFUSED_RANGE;
     if (f->code == MOP_CODE_REQUEST_PROGRAM &&
         (f->program > 2 || !is_form(f->form) ||
             f->id_length != id_bytes(f->form)))
         return MOP_REFUSED_FIELD;
-    if (f->code == MOP_CODE_PARAMETERS && !good_entries(bytes, f->data_length))
+    if (f->code == MOP_CODE_PARAMETERS &&
+        !good_entries(version, bytes, f->data_length))
         return MOP_REFUSED_FIELD;
     const size_t length = least_length(f->code) + f->data_length + f->id_length;
     if (length > MOP_FRAME_MOST)
@@ -90,10 +94,10 @@ static unsigned wanted(const mop_fields *f, const uint8_t *bytes, size_t room)
 }
 
 /* What was written reads as what was asked for. */
-static void check_read_back(const mop_fields *f, size_t length)
+static void check_read_back(uint8_t version, const mop_fields *f, size_t length)
 {
     const uint8_t *bytes = lent_bytes(&out);
-    const mop_fields r = mop_read(bytes, length);
+    const mop_fields r = mop_read(version, bytes, length);
     demand(r.refusal == MOP_ACCEPTED, "a frame that can't be read");
     demand(r.code == f->code && r.number == f->number && r.error == f->error &&
                r.device == f->device && r.format == f->format &&
@@ -112,24 +116,26 @@ static void check_read_back(const mop_fields *f, size_t length)
 }
 
 /* The fields of f, with the data and the id that it says the lengths of. */
-static void check_write(
-    const mop_fields *f, const uint8_t *bytes, const uint8_t *name, size_t room)
+static void check_write(uint8_t version, const mop_fields *f,
+    const uint8_t *bytes, const uint8_t *name, size_t room)
 {
     uint8_t clear[BEYOND];
     random_bytes(clear, room);
-    const unsigned refusal = wanted(f, bytes, room);
+    const unsigned refusal = wanted(version, f, bytes, room);
     for (int side = BEHIND; side <= BEFORE; side++) {
         lent_place(&data, (enum side)side, bytes, f->data_length);
         lent_place(&id, (enum side)side, name, f->id_length);
         lent_place(&out, (enum side)side, clear, room);
-        const mop_written answer = write_frame(f, lent_in(&data),
+        const mop_written answer = write_frame(version, f, lent_in(&data),
             f->data_length, lent_in(&id), f->id_length, lent_out(&out), room);
         demand(answer.refusal == refusal, "not the header's refusal");
         demand(answer.length <= room, "longer than its room");
         demand(lent_same_from(&out, answer.length),
             "bytes behind the frame, or of a refused call, changed");
         if (refusal == MOP_ACCEPTED)
-            check_read_back(f, answer.length);
+            check_read_back(
+                f->code == MOP_CODE_PARAMETERS ? version : MOP_VERSION_3_0, f,
+                answer.length);
         else
             demand(answer.length == 0, "a refusal with a length");
     }
@@ -163,8 +169,9 @@ static mop_fields any_fields(uint8_t code)
     return f;
 }
 
-/* A code with so many bytes of data, in rooms around the frame's length. */
-static void check_rooms(uint8_t code, size_t length)
+/* A code with so many bytes of data, in rooms around the frame's length. The
+ * version is code 20's. */
+static void check_rooms(uint8_t version, uint8_t code, size_t length)
 {
     uint8_t bytes[2 * BEYOND], name[40];
     mop_fields f = any_fields(code);
@@ -178,7 +185,7 @@ static void check_rooms(uint8_t code, size_t length)
         0, frame - 1, frame, frame + 1, 1500, below(BEYOND)};
     for (size_t i = 0; i < sizeof rooms / sizeof rooms[0]; i++)
         if (rooms[i] < BEYOND)
-            check_write(&f, bytes, name, rooms[i]);
+            check_write(version, &f, bytes, name, rooms[i]);
 }
 
 void test_writing(void)
@@ -189,8 +196,11 @@ void test_writing(void)
     for (size_t length = 0; length < BEYOND; length += stride())
         for (int i = 0; i < CODES; i++)
             if (!is_exact(codes[i]))
-                check_rooms(codes[i], length);
+                check_rooms(any_version(), codes[i], length);
     for (unsigned i = 0; i < cases(2000); i++)
         for (int k = 0; k < CODES; k++)
-            check_rooms(codes[k], is_exact(codes[k]) ? 0 : below(BEYOND));
+            check_rooms(any_version(), codes[k],
+                is_exact(codes[k]) ? 0 : below(BEYOND));
+    for (int version = 0; version <= UINT8_MAX; version++)
+        check_rooms((uint8_t)version, MOP_CODE_PARAMETERS, below(BEYOND));
 }

@@ -1,13 +1,15 @@
 /* Wrong calls, to see that the test finds them: WRONG says which. The linker
  * puts each in the place of the library's (--wrap); tests/c/wrong.sh has the
  * list. */
+#include <string.h>
+
 #include "mop.h"
 
 #define WRAP(name) __wrap_##name
 #define REAL(name) __real_##name
 
-mop_fields REAL(mop_read)(const uint8_t *, size_t);
-mop_fields WRAP(mop_read)(const uint8_t *, size_t);
+mop_fields REAL(mop_read)(uint8_t, const uint8_t *, size_t);
+mop_fields WRAP(mop_read)(uint8_t, const uint8_t *, size_t);
 mop_written REAL(mop_write_loop)(
     uint16_t, const uint8_t *, size_t, uint8_t *, size_t);
 mop_written WRAP(mop_write_loop)(
@@ -82,24 +84,44 @@ static inline int rejected(mop_written answer, const uint8_t *reply)
 {
     return answer.length == 3 && reply[0] == MOP_CODE_REQUEST_LOAD && reply[2];
 }
+
+/* Where the parameter block begins, in a memory that has one. */
+static inline size_t block_at(size_t size)
+{
+    return size + size % 2 - MOP_BLOCK_BELOW_TOP;
+}
+
+static inline uint8_t *block_of(uint8_t *memory, size_t size)
+{
+    return size < MOP_BLOCK_MEMORY_LEAST ? memory : memory + block_at(size);
+}
+
+/* Whether a step of version 2.1 was started by parameters. */
+static inline int lays_block(
+    mop_machine_settings settings, const uint8_t *frame, mop_machine_step step)
+{
+    return settings.version == MOP_VERSION_2_1 && step.answer.length > 0 &&
+           frame[0] == MOP_CODE_PARAMETERS &&
+           step.machine.state == MOP_MACHINE_STARTED;
+}
 #endif
 
 #if WRONG == 1 /* looks at the byte behind the frame */
-mop_fields WRAP(mop_read)(const uint8_t *frame, size_t length)
+mop_fields WRAP(mop_read)(uint8_t version, const uint8_t *frame, size_t length)
 {
     (void)*(volatile const uint8_t *)(frame + length);
-    return REAL(mop_read)(frame, length);
+    return REAL(mop_read)(version, frame, length);
 }
 #elif WRONG == 2  /* looks at the byte before the frame */
-mop_fields WRAP(mop_read)(const uint8_t *frame, size_t length)
+mop_fields WRAP(mop_read)(uint8_t version, const uint8_t *frame, size_t length)
 {
     (void)*(volatile const uint8_t *)(frame - 1);
-    return REAL(mop_read)(frame, length);
+    return REAL(mop_read)(version, frame, length);
 }
 #elif WRONG == 3  /* gives a refused frame's code */
-mop_fields WRAP(mop_read)(const uint8_t *frame, size_t length)
+mop_fields WRAP(mop_read)(uint8_t version, const uint8_t *frame, size_t length)
 {
-    mop_fields f = REAL(mop_read)(frame, length);
+    mop_fields f = REAL(mop_read)(version, frame, length);
     f.code = length > 0 ? frame[0] : 0;
     return f;
 }
@@ -241,7 +263,7 @@ mop_written WRAP(mop_load_update_frame)(mop_load_settings settings,
 {
     mop_written answer = REAL(mop_load_update_frame)(settings, session, file,
         size, string, string_length, frame, length, reply, room);
-    const uint8_t refusal = mop_read(frame, length).refusal;
+    const uint8_t refusal = mop_read(settings.version, frame, length).refusal;
     if (mop_refused_frame(answer.refusal) && refusal != 0)
         answer.refusal = refusal;
     return answer;
@@ -284,7 +306,7 @@ WRONG_FRAME
 #elif WRONG == 23 /* lays what of a rejected load comes before the window */
 WRONG_FRAME
 {
-    const mop_fields f = mop_read(frame, length);
+    const mop_fields f = mop_read(settings.version, frame, length);
     const mop_machine_step step = REAL_FRAME;
     for (size_t i = 0; i < f.data_length; i++)
         if (rejected(step.answer, reply) && f.address + f.data_length <= size &&
@@ -319,7 +341,7 @@ WRONG_FRAME
 #elif WRONG == 28 /* rejects a load without bytes inside the window */
 WRONG_FRAME
 {
-    const mop_fields f = mop_read(frame, length);
+    const mop_fields f = mop_read(settings.version, frame, length);
     if (f.data_length == 0 && inside(settings.window, f.address) &&
         (f.code == MOP_CODE_LOAD || f.code == MOP_CODE_LOAD_TRANSFER))
         size = 0;
@@ -328,7 +350,7 @@ WRONG_FRAME
 #elif WRONG == 29 /* looks at the first and the last byte of a load alone */
 WRONG_FRAME
 {
-    const mop_fields f = mop_read(frame, length);
+    const mop_fields f = mop_read(settings.version, frame, length);
     const mop_window w = settings.window;
     if (f.address < w.start && w.start < ADDRESSES && w.length < ADDRESSES &&
         w.start + w.length < f.address + f.data_length)
@@ -339,7 +361,7 @@ WRONG_FRAME
 WRONG_FRAME
 {
     const mop_machine_step step = REAL_FRAME;
-    const uint64_t address = mop_read(frame, length).address;
+    const uint64_t address = mop_read(settings.version, frame, length).address;
     for (size_t i = 5; i < step.answer.length; i++)
         if (reply[0] == MOP_CODE_DUMP_DATA &&
             inside(settings.window, address + i - 5))
@@ -374,5 +396,151 @@ WRONG_TIMER
     if (settings.window.length == 0 && settings.window.start > ADDRESSES)
         settings.reply_bytes = 0;
     return REAL_TIMER;
+}
+#elif WRONG == 35 /* lays no block */
+WRONG_FRAME
+{
+    uint8_t old[MOP_BLOCK_BYTES] = {0};
+    if (size >= MOP_BLOCK_MEMORY_LEAST)
+        memcpy(old, block_of(memory, size), sizeof old);
+    const mop_machine_step step = REAL_FRAME;
+    if (lays_block(settings, frame, step))
+        memcpy(block_of(memory, size), old, sizeof old);
+    return step;
+}
+#elif WRONG == 36 /* lays a block under 3.0.0 too */
+WRONG_FRAME
+{
+    const mop_machine_step step = REAL_FRAME;
+    settings.version =
+        settings.version == MOP_VERSION_3_0 ? MOP_VERSION_2_1 : 0;
+    if (lays_block(settings, frame, step) && size >= MOP_BLOCK_MEMORY_LEAST)
+        block_of(memory, size)[0] ^= 1;
+    return step;
+}
+#elif WRONG == 37 /* takes an odd memory's length for its top */
+WRONG_FRAME
+{
+    const mop_machine_step step = REAL_FRAME;
+    if (size % 2 == 1 && lays_block(settings, frame, step))
+        memmove(block_of(memory, size) - 1, block_of(memory, size), 14);
+    return step;
+}
+#elif WRONG == 38 /* writes all of a name that is absent */
+WRONG_FRAME
+{
+    const mop_machine_step step = REAL_FRAME;
+    if (lays_block(settings, frame, step) &&
+        step.machine.parameters.host_name.length == 0)
+        block_of(memory, size)[13] = 0;
+    return step;
+}
+#elif WRONG == 39 /* leaves a name that is absent as it was */
+WRONG_FRAME
+{
+    uint8_t old = size < MOP_BLOCK_MEMORY_LEAST ? 0 : block_of(memory, size)[2];
+    const mop_machine_step step = REAL_FRAME;
+    if (lays_block(settings, frame, step) &&
+        step.machine.parameters.target_name.length == 0)
+        block_of(memory, size)[2] = old;
+    return step;
+}
+#elif WRONG == 40 /* fills a name up with zeros */
+WRONG_FRAME
+{
+    const mop_machine_step step = REAL_FRAME;
+    const size_t name = step.machine.parameters.target_name.length;
+    if (lays_block(settings, frame, step) && name > 0 && name < 6)
+        block_of(memory, size)[2 + name] = 0;
+    return step;
+}
+#elif WRONG == 41 /* writes a byte behind the block */
+WRONG_FRAME
+{
+    const mop_machine_step step = REAL_FRAME;
+    if (lays_block(settings, frame, step))
+        block_of(memory, size)[14] ^= 1;
+    return step;
+}
+#elif WRONG == 42 /* minds only those of the 14 bytes that it writes */
+WRONG_FRAME
+{
+    const mop_fields f = mop_read(settings.version, frame, length);
+    if (settings.version == MOP_VERSION_2_1 && size >= MOP_BLOCK_MEMORY_LEAST &&
+        f.code == MOP_CODE_PARAMETERS && f.data_length == 0 &&
+        settings.window.start >= block_at(size) + 10)
+        settings.window.length = 0;
+    return REAL_FRAME;
+}
+#elif WRONG == 43 /* rejects parameters whose block ends at the window */
+WRONG_FRAME
+{
+    if (settings.version == MOP_VERSION_2_1 && size >= MOP_BLOCK_MEMORY_LEAST &&
+        length > 0 && frame[0] == MOP_CODE_PARAMETERS &&
+        settings.window.start == block_at(size) + MOP_BLOCK_BYTES)
+        settings.window = with_end(settings.window, -1, 0);
+    return REAL_FRAME;
+}
+#elif WRONG == 44 /* writes the block of parameters that it rejects */
+WRONG_FRAME
+{
+    const mop_machine_step step = REAL_FRAME;
+    if (rejected(step.answer, reply) && frame[0] == MOP_CODE_PARAMETERS)
+        block_of(memory, size)[0] ^= 1;
+    return step;
+}
+#elif WRONG == 45 /* keeps parameters that it rejects */
+WRONG_FRAME
+{
+    mop_machine_step step = REAL_FRAME;
+    if (rejected(step.answer, reply) && frame[0] == MOP_CODE_PARAMETERS)
+        step.machine.parameters.host_name.length ^= 1;
+    return step;
+}
+#elif WRONG == 46 /* looks at the byte below an odd memory's top */
+WRONG_FRAME
+{
+    if (settings.version == MOP_VERSION_2_1 && size >= MOP_BLOCK_MEMORY_LEAST)
+        (void)*(volatile uint8_t *)(memory + size - 1 + size % 2);
+    return REAL_FRAME;
+}
+#elif WRONG == 47 /* takes any memory under version 2.1 for a dump */
+WRONG_TIMER
+{
+    if (settings.version == MOP_VERSION_2_1 && size < MOP_BLOCK_MEMORY_LEAST &&
+        machine.state == MOP_MACHINE_OFFERING)
+        settings.version = MOP_VERSION_3_0;
+    return REAL_TIMER;
+}
+#elif WRONG == 48 /* refuses in another order: 9 before 11 */
+WRONG_TIMER
+{
+    mop_machine_step step = REAL_TIMER;
+    if (step.answer.refusal == MOP_REFUSED_MEMORY && room < MOP_FRAME_MOST)
+        step.answer.refusal = MOP_REFUSED_ROOM;
+    return step;
+}
+#elif WRONG == 49 /* takes every other version for 3.0.0 */
+WRONG_TIMER
+{
+    if (settings.version != MOP_VERSION_2_1)
+        settings.version = MOP_VERSION_3_0;
+    return REAL_TIMER;
+}
+#elif WRONG == 50 /* reads a frame under a version that is none */
+mop_fields WRAP(mop_read)(uint8_t version, const uint8_t *frame, size_t length)
+{
+    return REAL(mop_read)(
+        version == 0 ? MOP_VERSION_3_0 : version, frame, length);
+}
+#elif WRONG == 51 /* judges a load's string by version 3.0.0 */
+mop_load_step WRAP(mop_load_timer)(mop_load_settings settings, mop_load session,
+    const uint8_t *file, size_t size, const uint8_t *string, size_t length,
+    uint8_t *reply, size_t room)
+{
+    if (settings.version == MOP_VERSION_2_1)
+        settings.version = MOP_VERSION_3_0;
+    return REAL(mop_load_timer)(
+        settings, session, file, size, string, length, reply, room);
 }
 #endif

@@ -4,6 +4,7 @@
 use std::alloc::{Layout, alloc_zeroed, dealloc};
 use std::slice;
 
+use crate::make::V3_0;
 use crate::tally::Hex;
 use crate::writing::write_proved;
 use crate::{Compare, Wanted, images};
@@ -71,7 +72,7 @@ impl Compare {
             (16, 1, 3),
         ] {
             bytes[0] = first;
-            self.read("above 32 bits", &bytes[..BEYOND + length], Some(wanted));
+            self.read_alike("above 32 bits", &bytes[..BEYOND + length], Some(wanted));
         }
         bytes[0] = 0;
     }
@@ -114,11 +115,13 @@ impl Compare {
         // 2 comes before 9 here too.
         for (frame, wanted) in frames.into_iter().filter(|&(_, wanted)| wanted == 2) {
             for room in [0, 20] {
-                self.write("above 32 bits", &frame, room, Wanted::Refusal(wanted));
+                let (version, wanted) = (self.any_version(), Wanted::Refusal(wanted));
+                self.write(version, "above 32 bits", &frame, room, wanted);
             }
         }
         for (frame, wanted) in frames {
-            self.write("above 32 bits", &frame, 1500, Wanted::Refusal(wanted));
+            let (version, wanted) = (self.any_version(), Wanted::Refusal(wanted));
+            self.write(version, "above 32 bits", &frame, 1500, wanted);
         }
     }
 
@@ -128,7 +131,7 @@ impl Compare {
             number: 7,
             error: 1,
         };
-        let seen = write_proved(&frame, &mut bytes[..BEYOND + 1]);
+        let seen = write_proved(V3_0, &frame, &mut bytes[..BEYOND + 1]);
         let wanted = mop_proved::Written {
             length: 3,
             refusal: 0,

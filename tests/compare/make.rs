@@ -4,13 +4,45 @@
 use crate::random::Random;
 use crate::tally::CODES;
 
+/// The numbers of versions 2.1 and 3.0.0.
+pub const V2_1: u8 = 21;
+pub const V3_0: u8 = 30;
+pub const VERSIONS: [u8; 2] = [V2_1, V3_0];
+/// Numbers of no version.
+pub const NO_VERSIONS: [u8; 7] = [0, 1, 20, 22, 29, 31, 255];
+
+/// The greatest lengths of a version's names and addresses.
+fn most(version: u8) -> (usize, usize) {
+    match version {
+        V2_1 => (6, 2),
+        _ => (16, 6),
+    }
+}
+
+/// Types 1 to 4 and their values' greatest lengths under a version.
+pub fn short_types(version: u8) -> [(u8, usize); 4] {
+    let (name, address) = most(version);
+    [(1, name), (2, address), (3, name), (4, address)]
+}
+
+/// Whether an entry of this type may have this length under a version.
+pub fn entry_fits(version: u8, kind: u8, length: usize) -> bool {
+    let (name, address) = most(version);
+    match kind {
+        1 | 3 => length <= name,
+        2 | 4 => length <= address,
+        5 => version == V3_0 && length == 10,
+        _ => false,
+    }
+}
+
 /// A frame of a listed code.
-pub fn frame(random: &mut Random, code: u8) -> Vec<u8> {
+pub fn frame(random: &mut Random, version: u8, code: u8) -> Vec<u8> {
     match code {
         8 => request_program(random),
         20 => {
             let room = if random.once_in(8) { 1493 } else { 80 };
-            let entries = entries(random, room).concat();
+            let entries = entries(random, version, room).concat();
             parameters(random, &entries)
         }
         _ => {
@@ -60,17 +92,17 @@ pub fn parameters(random: &mut Random, entries: &[u8]) -> Vec<u8> {
 }
 
 /// Some entries that have at most `room` bytes together, at times all of it.
-pub fn entries(random: &mut Random, room: usize) -> Vec<Vec<u8>> {
-    let most = random.pick(&[0, 1, 2, 3, 6, 2000]);
+pub fn entries(random: &mut Random, version: u8, room: usize) -> Vec<Vec<u8>> {
+    let count = random.pick(&[0, 1, 2, 3, 6, 2000]);
     let mut entries = Vec::new();
     let mut left = room;
-    while entries.len() < most {
-        let mut next = entry(random);
+    while entries.len() < count {
+        let mut next = entry(random, version);
         if next.len() > left {
             if left < 2 {
                 break;
             }
-            let length = (left - 2).min(16);
+            let length = (left - 2).min(most(version).0);
             next = name(random, length);
         }
         left -= next.len();
@@ -80,30 +112,35 @@ pub fn entries(random: &mut Random, room: usize) -> Vec<Vec<u8>> {
 }
 
 /// Names that have exactly `length` bytes together; not for a length of 1.
-pub fn filling(random: &mut Random, length: usize) -> Vec<Vec<u8>> {
+pub fn filling(random: &mut Random, version: u8, length: usize) -> Vec<Vec<u8>> {
+    let longest = 2 + most(version).0;
     let mut entries = Vec::new();
     let mut left = length;
     while left > 0 {
-        let next = if left == 19 { 17 } else { left.min(18) };
+        let next = match left == longest + 1 {
+            true => longest - 1,
+            false => left.min(longest),
+        };
         entries.push(name(random, next - 2));
         left -= next;
     }
     entries
 }
 
-/// One entry of any type.
-pub fn entry(random: &mut Random) -> Vec<u8> {
+/// One entry of any type that the version has.
+pub fn entry(random: &mut Random, version: u8) -> Vec<u8> {
+    let (longest, address) = most(version);
     match random.below(3) {
-        0 => {
-            let length = random.pick(&[0, 1, 6, 15, 16]);
-            name(random, length)
-        }
+        0 if version == V3_0 => with_head(5, time(random).to_vec()),
         1 => {
-            let length = random.range(0, 6);
+            let length = random.range(0, address);
             let kind = random.pick(&[2, 4]);
             with_head(kind, random.bytes(length))
         }
-        _ => with_head(5, time(random).to_vec()),
+        _ => {
+            let length = random.pick(&[0, 1, longest / 2, longest - 1, longest]);
+            name(random, length)
+        }
     }
 }
 

@@ -1,31 +1,43 @@
 //! Compares the readers.
 
 use crate::Compare;
-use crate::make;
+use crate::make::{self, NO_VERSIONS, V2_1, V3_0, VERSIONS, entry_fits};
 use crate::tally::{CODES, Hex};
 use mop_plain::frame::{self, Frame};
+use mop_plain::version::Version;
 
 impl Compare {
     /// Reads a frame with both implementations and compares every field; an
     /// accepted one is written again. `wanted` is the answer by the protocol,
     /// where the case's maker knows it: 0, or the refusal.
-    pub fn read(&mut self, kind: &'static str, bytes: &[u8], wanted: Option<u8>) {
-        let plain = frame::read(bytes);
+    pub fn read(&mut self, version: u8, kind: &'static str, bytes: &[u8], wanted: Option<u8>) {
+        let plain = Version::from_number(version).and_then(|version| frame::read(version, bytes));
         let expected = fields(plain, bytes);
-        let seen = mop_proved::read(bytes);
+        let seen = mop_proved::read(version, bytes);
         self.tally.frame(kind, bytes, expected.refusal);
         if seen != expected {
-            let what = format_args!("reader, {kind}");
+            let what = format_args!("reader, version {version}, {kind}");
             self.tally.differ(what, Hex(bytes), seen, expected);
         }
         if wanted.is_some_and(|wanted| wanted != expected.refusal) {
-            let what = format_args!("plain reader against the protocol, {kind}");
+            let what = format_args!("plain reader against the protocol, version {version}, {kind}");
             self.tally
                 .differ(what, Hex(bytes), expected.refusal, wanted);
         }
         if let Ok(frame) = plain {
-            self.rewrite(&frame, bytes);
+            self.rewrite(version, &frame, bytes);
         }
+    }
+
+    /// The same under both versions, which give one answer.
+    pub fn read_alike(&mut self, kind: &'static str, bytes: &[u8], wanted: Option<u8>) {
+        for version in VERSIONS {
+            self.read(version, kind, bytes, wanted);
+        }
+    }
+
+    pub fn any_version(&mut self) -> u8 {
+        self.random.pick(&VERSIONS)
     }
 
     pub fn all_readers(&mut self) {
@@ -34,15 +46,18 @@ impl Compare {
         self.whole_frames();
         self.cut_frames();
         self.software_forms();
-        self.entry_types();
-        self.entry_lengths();
-        self.swallowing_entries();
-        self.long_parameters();
-        self.times();
-        self.cut_times();
+        for version in VERSIONS {
+            self.entry_types(version);
+            self.entry_lengths(version);
+            self.swallowing_entries(version);
+            self.long_parameters(version);
+            self.times(version);
+            self.cut_times(version);
+        }
         self.offsets();
         self.random_frames();
         self.random_entries();
+        self.versions_that_are_none();
     }
 
     /// Paper 01's set cases K1 to K5 and K11, and what its text says outright.
@@ -63,11 +78,6 @@ impl Compare {
             (vec![16], 3),
             (load(10), 0),
             (load(9), 1),
-            (time(0, -30), 0),
-            (time(1, -30), 4),
-            (time(-1, 30), 4),
-            (time(-12, -59), 0),
-            (time(13, 59), 0),
             (unlisted, 3),
             (bad_form, 2),
             (vec![8, 0, 1, 3, 16, 0], 4),
@@ -76,14 +86,24 @@ impl Compare {
             (vec![20, 0, 0, 1, 2, 3, 4], 0),
             (vec![20, 0, 0, 1, 2, 3, 4, 5], 2),
             (vec![20, 0, 1, 0, 0, 1, 2, 3], 1),
-            (vec![20, 0, 1, 0, 3, 0, 5], 1),
             (vec![20, 0, 1, 0, 3, 0, 6], 4),
         ] {
-            self.read("set cases", &frame, Some(wanted));
+            self.read_alike("set cases", &frame, Some(wanted));
+        }
+        for (frame, wanted) in [
+            (time(0, -30), 0),
+            (time(1, -30), 4),
+            (time(-1, 30), 4),
+            (time(-12, -59), 0),
+            (time(13, 59), 0),
+            (vec![20, 0, 1, 0, 3, 0, 5], 1),
+        ] {
+            self.read(V3_0, "set cases", &frame, Some(wanted));
+            self.read(V2_1, "set cases", &frame, Some(4));
         }
         let (number, error) = (1, 0);
         let wanted = Ok(Frame::RequestLoad { number, error });
-        let seen = frame::read(&[10, 1, 0]);
+        let seen = frame::read(Version::V2_1, &[10, 1, 0]);
         if seen != wanted {
             let what = format_args!("plain reader, K2");
             self.tally.differ(what, Hex(&[10, 1, 0]), seen, wanted);
@@ -104,7 +124,7 @@ impl Compare {
                     };
                     *byte = first;
                     let wanted = if listed.is_none() { Some(3) } else { None };
-                    self.read("every first byte at many lengths", frame, wanted);
+                    self.read_alike("every first byte at many lengths", frame, wanted);
                 }
             }
         }
@@ -112,15 +132,16 @@ impl Compare {
 
     /// Good frames of every code, damaged by one byte, and extended.
     fn whole_frames(&mut self) {
-        for _ in 0..4000 {
+        for round in 0..4000 {
+            let version = VERSIONS[round % 2];
             for listed in &CODES {
-                let frame = make::frame(&mut self.random, listed.code);
-                self.read("good", &frame, Some(0));
+                let frame = make::frame(&mut self.random, version, listed.code);
+                self.read(version, "good", &frame, Some(0));
                 for _ in 0..3 {
                     let damaged = self.damage(&frame);
-                    self.read("damaged by one byte", &damaged, None);
+                    self.read(version, "damaged by one byte", &damaged, None);
                 }
-                self.extend(&frame, listed.most);
+                self.extend(version, &frame, listed.most);
             }
         }
     }
@@ -134,26 +155,29 @@ impl Compare {
         damaged
     }
 
-    fn extend(&mut self, frame: &[u8], most: usize) {
+    fn extend(&mut self, version: u8, frame: &[u8], most: usize) {
         let count = self.random.pick(&[1, 1, 2, 4, 5, 500]);
         let mut extended = frame.to_vec();
         extended.extend(self.random.bytes(count));
         let refused = frame[0] == 20 || extended.len() > most;
-        self.read("extended", &extended, Some(if refused { 2 } else { 0 }));
+        let wanted = if refused { 2 } else { 0 };
+        self.read(version, "extended", &extended, Some(wanted));
     }
 
     /// Good frames, cut at every length.
     fn cut_frames(&mut self) {
         for round in 0..40 {
+            let version = VERSIONS[round % 2];
             for listed in &CODES {
-                let frame = make::frame(&mut self.random, listed.code);
+                let frame = make::frame(&mut self.random, version, listed.code);
                 if frame.len() > 200 && round >= 8 {
                     continue;
                 }
                 let needed = needed(&frame, listed.least);
                 for length in 0..=frame.len() {
                     let wanted = if length < needed { 1 } else { 0 };
-                    self.read("cut at every length", &frame[..length], Some(wanted));
+                    let part = &frame[..length];
+                    self.read(version, "cut at every length", part, Some(wanted));
                 }
             }
         }
@@ -173,22 +197,23 @@ impl Compare {
                         true if length < 6 + id => 1,
                         true => 0,
                     };
-                    self.read("every software form", &frame, Some(wanted));
+                    let version = self.any_version();
+                    self.read(version, "every software form", &frame, Some(wanted));
                 }
             }
         }
         for program in 0..=255u8 {
             let frame = [8, 0, 1, program, 0, 0];
             let wanted = if program <= 2 { 0 } else { 4 };
-            self.read("every program type", &frame, Some(wanted));
+            self.read_alike("every program type", &frame, Some(wanted));
         }
     }
 
     /// Every entry type, with lengths about the bounds, first or behind
     /// another entry, whole or cut behind the type or the length.
-    fn entry_types(&mut self) {
+    fn entry_types(&mut self, version: u8) {
         for kind in 0..=255u8 {
-            for length in [0, 1, 5, 6, 7, 9, 10, 11, 15, 16, 17, 255] {
+            for length in [0, 1, 2, 3, 5, 6, 7, 9, 10, 11, 15, 16, 17, 255] {
                 let time = make::time(&mut self.random);
                 let value = if kind == 5 && length == 10 {
                     time.to_vec()
@@ -198,30 +223,31 @@ impl Compare {
                 let entry = make::with_head(kind, value);
                 let wanted = match kind {
                     0 => None,
-                    _ if entry_fits(kind, length) => Some(0),
+                    _ if entry_fits(version, kind, length) => Some(0),
                     _ => Some(4),
                 };
-                let before = make::entry(&mut self.random);
+                let before = make::entry(&mut self.random, version);
                 for entries in [entry.clone(), [before, entry.clone()].concat()] {
                     let frame = make::parameters(&mut self.random, &entries);
-                    self.read("every entry type", &frame, wanted);
+                    self.read(version, "every entry type", &frame, wanted);
                 }
-                self.entry_cut(&entry);
+                self.entry_cut(version, &entry);
             }
         }
     }
 
     /// A frame that ends behind an entry's type, and behind its length.
-    fn entry_cut(&mut self, entry: &[u8]) {
+    fn entry_cut(&mut self, version: u8, entry: &[u8]) {
         let (kind, length) = (entry[0], usize::from(entry[1]));
-        let before = make::with_head(3, self.random.bytes(9));
+        let before = make::with_head(3, self.random.bytes(5));
         let start = [&[20, 0][..], &before].concat();
-        let known = matches!(kind, 0..=5);
-        let fits = kind == 0 || entry_fits(kind, length);
+        let known = kind <= if version == V2_1 { 4 } else { 5 };
+        let fits = kind == 0 || entry_fits(version, kind, length);
         for (part, good) in [(&entry[..1], known), (&entry[..2], fits)] {
             let wanted = if good { 1 } else { 4 };
             let frame = [&start, part].concat();
             self.read(
+                version,
                 "ends behind an entry's type or length",
                 &frame,
                 Some(wanted),
@@ -229,8 +255,8 @@ impl Compare {
         }
     }
 
-    /// Every length byte of every listed type.
-    fn entry_lengths(&mut self) {
+    /// Every length byte of types 1 to 5; the last is not listed under 2.1.
+    fn entry_lengths(&mut self, version: u8) {
         for kind in 1..=5u8 {
             for length in 0..=255usize {
                 let value = match (kind, length) {
@@ -239,23 +265,33 @@ impl Compare {
                 };
                 let entries = make::with_head(kind, value);
                 let frame = make::parameters(&mut self.random, &entries);
-                let wanted = if entry_fits(kind, length) { 0 } else { 4 };
-                self.read("every entry length", &frame, Some(wanted));
+                let wanted = if entry_fits(version, kind, length) {
+                    0
+                } else {
+                    4
+                };
+                let kind = match (version, kind) {
+                    (V2_1, 5) => "2.1: host times of every length",
+                    (V2_1, _) => "2.1: names and addresses of every length",
+                    _ => "every entry length",
+                };
+                self.read(version, kind, &frame, Some(wanted));
             }
         }
     }
 
     /// Entries that take the end mark and transfer address for their value:
     /// the walk runs out.
-    fn swallowing_entries(&mut self) {
-        for kind in [1, 2, 3, 4] {
-            for length in 1..=if kind % 2 == 1 { 16 } else { 6 } {
+    fn swallowing_entries(&mut self, version: u8) {
+        const KIND: &str = "entries that swallow the end";
+        for (kind, most) in make::short_types(version) {
+            for length in 1..=most {
                 for present in 0..length {
                     let mut frame = vec![20, 0, 1, 3, 7, 7, 7, kind, length as u8];
                     frame.extend(self.random.bytes(present));
-                    self.read("entries that swallow the end", &frame, Some(1));
+                    self.read(version, KIND, &frame, Some(1));
                     frame.extend(self.random.bytes(length - present));
-                    self.read("entries that swallow the end", &frame, Some(1));
+                    self.read(version, KIND, &frame, Some(1));
                 }
             }
         }
@@ -263,20 +299,20 @@ impl Compare {
 
     /// Code 20 about its greatest length, with good entries and a bad one: the
     /// excess is found before the bad entry.
-    fn long_parameters(&mut self) {
+    fn long_parameters(&mut self, version: u8) {
         for length in [1498, 1499, 1500, 1501, 1502, 2000] {
-            let entries = make::filling(&mut self.random, length - 7).concat();
+            let entries = make::filling(&mut self.random, version, length - 7).concat();
             let mut frame = make::parameters(&mut self.random, &entries);
             for (kind, answer) in [(1, 0), (6, 4)] {
                 frame[2] = kind;
                 let wanted = if length > 1500 { 2 } else { answer };
-                self.read("code 20 about 1,500 bytes", &frame, Some(wanted));
+                self.read(version, "code 20 about 1,500 bytes", &frame, Some(wanted));
             }
         }
     }
 
     /// Every value of each time field, the others good.
-    fn times(&mut self) {
+    fn times(&mut self, version: u8) {
         for field in 0..8 {
             let (least, most) = make::TIME_BOUNDS[field];
             for value in 0..=255u8 {
@@ -284,33 +320,35 @@ impl Compare {
                     let mut time = make::time(&mut self.random);
                     time[field] = value;
                     let good = least <= value && value <= most;
-                    self.time("every value of each time field", &time, good);
+                    self.time(version, "every value of each time field", &time, good);
                 }
             }
         }
     }
 
-    /// Every pair of offset hours and minutes.
+    /// Every pair of offset hours and minutes, under 3.0.0.
     fn offsets(&mut self) {
         let mut time = make::time(&mut self.random);
         for hours in -128..=127i8 {
             for minutes in -128..=127i8 {
                 (time[8], time[9]) = (hours as u8, minutes as u8);
                 let good = make::offset_is_good(hours, minutes);
-                self.time("every pair of offset hours and minutes", &time, good);
+                self.time(V3_0, "every pair of offset hours and minutes", &time, good);
             }
         }
     }
 
-    fn time(&mut self, kind: &'static str, time: &[u8; 10], good: bool) {
+    /// `good` says whether 3.0.0 has this time; 2.1 has none.
+    fn time(&mut self, version: u8, kind: &'static str, time: &[u8; 10], good: bool) {
         let entries = make::with_head(5, time.to_vec());
         let frame = make::parameters(&mut self.random, &entries);
-        self.read(kind, &frame, Some(if good { 0 } else { 4 }));
+        let wanted = if good && version == V3_0 { 0 } else { 4 };
+        self.read(version, kind, &frame, Some(wanted));
     }
 
     /// Times that end early, with one field bad or none: a bad field that is
-    /// there is found before the end.
-    fn cut_times(&mut self) {
+    /// there is found before the end, and under 2.1 their type before both.
+    fn cut_times(&mut self, version: u8) {
         const BAD: [u8; 10] = [128, 101, 13, 0, 24, 60, 60, 100, 14, 60];
         for bad in 0..=10 {
             for present in 0..=10 {
@@ -320,8 +358,9 @@ impl Compare {
                 }
                 let start = [20, 0, 3, 2, 65, 66, 5, 10];
                 let frame = [&start, &time[..present]].concat();
-                let wanted = if bad < present { 4 } else { 1 };
-                self.read("times cut short", &frame, Some(wanted));
+                let early = bad < present || version == V2_1;
+                let wanted = if early { 4 } else { 1 };
+                self.read(version, "times cut short", &frame, Some(wanted));
             }
         }
     }
@@ -339,7 +378,8 @@ impl Compare {
             if let Some(first) = frame.first_mut().filter(|first| **first >= 16) {
                 *first = code;
             }
-            self.read("random bytes", &frame, None);
+            let version = self.any_version();
+            self.read(version, "random bytes", &frame, None);
         }
     }
 
@@ -354,7 +394,31 @@ impl Compare {
                 let byte = self.random.pick(&[0, 1, 2, 3, 4, small, 16, 17, any]);
                 frame.push(byte);
             }
-            self.read("random bytes that make entries", &frame, None);
+            let version = self.any_version();
+            self.read(version, "random bytes that make entries", &frame, None);
+        }
+    }
+
+    /// Frames of every sort under numbers of no version: 10 before all else.
+    fn versions_that_are_none(&mut self) {
+        const KIND: &str = "versions that are none";
+        for version in 0..=255 {
+            let wanted = if VERSIONS.contains(&version) { 0 } else { 10 };
+            self.read(version, "every version number", &[10, 1, 0], Some(wanted));
+        }
+        for version in NO_VERSIONS {
+            for frame in [&[][..], &[16], &[10, 1], &[20, 0, 6, 0, 0, 0, 0]] {
+                self.read(version, KIND, frame, Some(10));
+            }
+            for listed in &CODES {
+                let made_for = self.any_version();
+                let frame = make::frame(&mut self.random, made_for, listed.code);
+                let damaged = self.damage(&frame);
+                let longer = [&frame[..], &[0; 1500]].concat();
+                for frame in [&frame[..], &frame[..1], &damaged, &longer] {
+                    self.read(version, KIND, frame, Some(10));
+                }
+            }
         }
     }
 }
@@ -365,15 +429,6 @@ fn needed(frame: &[u8], least: usize) -> usize {
         8 if frame[4] <= 16 => 6 + usize::from(frame[4]),
         20 => frame.len(),
         _ => least,
-    }
-}
-
-fn entry_fits(kind: u8, length: usize) -> bool {
-    match kind {
-        1 | 3 => length <= 16,
-        2 | 4 => length <= 6,
-        5 => length == 10,
-        _ => false,
     }
 }
 

@@ -6,7 +6,7 @@ use std::fmt::{self, Debug};
 pub use crate::text::{Hex, commas};
 
 /// How often each refusal came; at 0, how often none did.
-pub type Refusals = [u64; 11];
+pub type Refusals = [u64; 12];
 
 /// A listed code, its frames' lengths, and every answer that its reader and
 /// its writer can give.
@@ -23,7 +23,7 @@ const fn open(code: u8, least: usize) -> Code {
         code,
         least,
         most: 1500,
-        reader: &[0, 1, 2],
+        reader: &[0, 1, 2, 10],
         writer: &[0, 2, 9],
     }
 }
@@ -31,9 +31,17 @@ const fn open(code: u8, least: usize) -> Code {
 /// A code with lists to break.
 const fn strict(code: u8, least: usize) -> Code {
     Code {
-        reader: &[0, 1, 2, 4],
+        reader: &[0, 1, 2, 4, 10],
         writer: &[0, 2, 4, 9],
         ..open(code, least)
+    }
+}
+
+/// One whose writer is told the version.
+const fn versioned(code: u8, least: usize) -> Code {
+    Code {
+        writer: &[0, 2, 4, 9, 10],
+        ..strict(code, least)
     }
 }
 
@@ -43,7 +51,10 @@ const fn exact(code: u8, length: usize) -> Code {
         code,
         least: length,
         most: length,
-        reader: if length == 1 { &[0, 2] } else { &[0, 1, 2] },
+        reader: match length {
+            1 => &[0, 2, 10],
+            _ => &[0, 1, 2, 10],
+        },
         writer: &[0, 9],
     }
 }
@@ -59,13 +70,13 @@ pub const CODES: [Code; 12] = [
     exact(10, 3),
     open(12, 8),
     open(14, 5),
-    strict(20, 7),
+    versioned(20, 7),
     open(24, 3),
     open(26, 3),
 ];
 
 /// The answers for a frame that is empty or whose code is not listed.
-const UNLISTED: &[u8] = &[1, 3];
+const UNLISTED: &[u8] = &[1, 3, 10];
 /// The answers of the image check and of the segment call.
 const IMAGE: &[u8] = &[0, 5, 6, 7, 8, 10];
 

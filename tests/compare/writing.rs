@@ -2,10 +2,11 @@
 
 use std::fmt::Debug;
 
-use crate::make;
+use crate::make::{self, NO_VERSIONS, VERSIONS, entry_fits};
 use crate::tally::Hex;
 use crate::{Compare, Wanted};
 use mop_plain::frame::{self, Frame};
+use mop_plain::version::Version;
 use mop_proved::Written;
 
 /// Bytes kept before and behind an output buffer, to see that they stay.
@@ -14,45 +15,55 @@ const MARGIN: usize = 24;
 impl Compare {
     /// An accepted frame's fields, written again: into a buffer of exactly
     /// its length, one byte short, and longer.
-    pub fn rewrite(&mut self, frame: &Frame, bytes: &[u8]) {
+    pub fn rewrite(&mut self, version: u8, frame: &Frame, bytes: &[u8]) {
         let exact = bytes.len();
         let more = exact + self.random.range(1, 60);
-        self.write("again, exact buffer", frame, exact, Wanted::Bytes(bytes));
-        self.write(
-            "again, one byte short",
-            frame,
-            exact - 1,
-            Wanted::Refusal(9),
-        );
-        self.write("again, longer buffer", frame, more, Wanted::Bytes(bytes));
+        for (kind, room, wanted) in [
+            ("again, exact buffer", exact, Wanted::Bytes(bytes)),
+            ("again, one byte short", exact - 1, Wanted::Refusal(9)),
+            ("again, longer buffer", more, Wanted::Bytes(bytes)),
+        ] {
+            self.write(version, kind, frame, room, wanted);
+        }
     }
 
     /// Writes a frame with both implementations into a buffer of `room`
-    /// bytes, and compares the answers and everything in and around it.
-    pub fn write(&mut self, kind: &'static str, frame: &Frame, room: usize, wanted: Wanted) {
+    /// bytes, and compares the answers and everything in and around it. Only
+    /// the writer of code 20 is told the version.
+    pub fn write(
+        &mut self,
+        version: u8,
+        kind: &'static str,
+        frame: &Frame,
+        room: usize,
+        wanted: Wanted,
+    ) {
         let before = self.random.bytes(MARGIN + room + MARGIN);
         let mut plain = before.clone();
         let mut proved = before.clone();
-        let answer = frame.write(&mut plain[MARGIN..MARGIN + room]);
-        let seen = write_proved(frame, &mut proved[MARGIN..MARGIN + room]);
+        let known = Version::from_number(version);
+        let answer = known.and_then(|known| frame.write(known, &mut plain[MARGIN..][..room]));
+        let seen = write_proved(version, frame, &mut proved[MARGIN..][..room]);
         self.tally
             .write(kind, frame.code(), answer.err().unwrap_or(0));
 
         let expected = written(answer);
         if seen != expected {
-            self.differ_in_writer(kind, frame, room, seen, expected);
+            self.differ_in_writer(version, kind, frame, room, seen, expected);
         }
         if proved != plain {
-            self.differ_in_writer(kind, frame, room, Hex(&proved), Hex(&plain));
+            self.differ_in_writer(version, kind, frame, room, Hex(&proved), Hex(&plain));
         }
-        let right = wanted_buffer(frame, answer, wanted, &before, &plain);
+        let right = wanted_buffer(known, frame, answer, wanted, &before, &plain);
         if let Err(wanted) = right {
-            self.differ_in_writer(kind, frame, room, (answer, Hex(&plain)), wanted);
+            let seen = (answer, Hex(&plain));
+            self.differ_in_writer(version, kind, frame, room, seen, wanted);
         }
     }
 
     fn differ_in_writer(
         &mut self,
+        version: u8,
         kind: &str,
         frame: &Frame,
         room: usize,
@@ -64,7 +75,9 @@ impl Compare {
             _ => &"more bytes than can be shown",
         };
         let code = frame.code();
-        let what = format_args!("writer of code {code}, {kind}, buffer of {room} bytes");
+        let what = format_args!(
+            "writer of code {code}, version {version}, {kind}, buffer of {room} bytes"
+        );
         self.tally.differ(what, shown, seen, wanted);
     }
 
@@ -74,20 +87,25 @@ impl Compare {
         self.long_arguments();
         self.software_ids();
         self.entry_strings();
-        self.long_entry_strings();
+        for version in VERSIONS {
+            self.entries_of_every_length(version);
+            self.long_entry_strings(version);
+        }
+        self.strings_of_no_version();
     }
 
     fn any_arguments(&mut self) {
         for _ in 0..3000 {
             for code in [0, 1, 2, 3, 4, 8, 10, 12, 14, 20, 24, 26] {
+                let version = self.any_version();
                 let data = match code == 20 && self.random.once_in(2) {
-                    true => make::entries(&mut self.random, 200).concat(),
+                    true => make::entries(&mut self.random, version, 200).concat(),
                     false => self.any_data(),
                 };
                 let id = self.any_id();
                 let frame = self.any_fields(code, &id, &data);
                 let room = self.any_room(frame.length());
-                self.write("any arguments", &frame, room, Wanted::Agreement);
+                self.write(version, "any arguments", &frame, room, Wanted::Agreement);
             }
         }
     }
@@ -188,8 +206,8 @@ impl Compare {
                     (*program, *form) = (2, 255);
                 }
                 for room in [0, 1, 1499, 1500, 1501, length - 1, length, length + 1] {
-                    let wanted = wanted(true, length, room);
-                    self.write("about and above 1,500 bytes", &frame, room, wanted);
+                    let (version, wanted) = (self.any_version(), wanted(true, length, room));
+                    self.write(version, "about and above 1,500 bytes", &frame, room, wanted);
                 }
             }
         }
@@ -229,31 +247,34 @@ impl Compare {
             };
             let length = 6 + id_length + info_length;
             for room in [0, length - 1, length] {
-                self.write("software ids", &frame, room, wanted(good, length, room));
+                let (version, wanted) = (self.any_version(), wanted(good, length, room));
+                self.write(version, "software ids", &frame, room, wanted);
             }
         }
     }
 
     /// Entry strings: good ones, with an end mark or a bad byte put in, cut.
     fn entry_strings(&mut self) {
-        for _ in 0..400 {
-            let entries = make::entries(&mut self.random, 60);
-            self.entry_string("entries", &entries.concat(), true);
+        for round in 0..400 {
+            let version = VERSIONS[round % 2];
+            let entries = make::entries(&mut self.random, version, 60);
+            self.entry_string(version, "entries", &entries.concat(), true);
             let place = self.random.range(0, entries.len());
             for kind in [0, 6, 255] {
                 let mut spoilt = entries.clone();
                 spoilt.insert(place, vec![kind]);
                 self.entry_string(
+                    version,
                     "entries with an end mark or bad type",
                     &spoilt.concat(),
                     false,
                 );
             }
-            self.cut_entries(&entries);
+            self.cut_entries(version, &entries);
         }
     }
 
-    fn cut_entries(&mut self, entries: &[Vec<u8>]) {
+    fn cut_entries(&mut self, version: u8, entries: &[Vec<u8>]) {
         let whole = entries.concat();
         let mut ends = vec![0];
         for entry in entries {
@@ -261,6 +282,7 @@ impl Compare {
         }
         for length in 0..=whole.len() {
             self.entry_string(
+                version,
                 "entries cut short",
                 &whole[..length],
                 ends.contains(&length),
@@ -268,32 +290,57 @@ impl Compare {
         }
     }
 
-    /// Entries that fill a frame to about 1,500 bytes: 4, then 2, then 9.
-    fn long_entry_strings(&mut self) {
-        for length in 1480..1520 {
-            let mut entries = make::filling(&mut self.random, length).concat();
-            self.entry_string("entries about 1,500 bytes", &entries, true);
-            entries.push(5);
-            self.entry_string("entries about 1,500 bytes", &entries, false);
+    /// An entry of every type and of every length about the versions' bounds.
+    fn entries_of_every_length(&mut self, version: u8) {
+        for kind in 1..=6 {
+            for length in 0..=20 {
+                let value = match (kind, length) {
+                    (5, 10) => make::time(&mut self.random).to_vec(),
+                    _ => self.random.bytes(length),
+                };
+                let entry = make::with_head(kind, value);
+                let good = entry_fits(version, kind, length);
+                self.entry_string(version, "entries of every length", &entry, good);
+            }
         }
-        let many = make::with_head(3, self.random.bytes(16)).repeat(5000);
-        self.entry_string("entries far above 1,500 bytes", &many, true);
-        self.entry_string(
-            "entries far above 1,500 bytes",
-            &many[..many.len() - 1],
-            false,
-        );
     }
 
-    fn entry_string(&mut self, kind: &'static str, entries: &[u8], good: bool) {
-        let frame = Frame::Parameters {
-            number: self.random.u8(),
-            entries,
-            transfer: self.random.u32(),
-        };
-        let length = 7 + entries.len();
+    /// Entries that fill a frame to about 1,500 bytes: 4, then 2, then 9.
+    fn long_entry_strings(&mut self, version: u8) {
+        const ABOUT: &str = "entries about 1,500 bytes";
+        const FAR_ABOVE: &str = "entries far above 1,500 bytes";
+        for length in 1480..1520 {
+            let mut entries = make::filling(&mut self.random, version, length).concat();
+            self.entry_string(version, ABOUT, &entries, true);
+            entries.push(5);
+            self.entry_string(version, ABOUT, &entries, false);
+        }
+        let many = make::with_head(3, self.random.bytes(6)).repeat(11_000);
+        self.entry_string(version, FAR_ABOVE, &many, true);
+        self.entry_string(version, FAR_ABOVE, &many[..many.len() - 1], false);
+    }
+
+    fn entry_string(&mut self, version: u8, kind: &'static str, entries: &[u8], good: bool) {
+        let frame = self.any_fields(20, &[], entries);
+        let length = frame.length();
         for room in [0, length - 1, length, length + 20] {
-            self.write(kind, &frame, room, wanted(good, length, room));
+            self.write(version, kind, &frame, room, wanted(good, length, room));
+        }
+    }
+
+    /// Strings of every sort under numbers of no version: 10 before all else.
+    fn strings_of_no_version(&mut self) {
+        for version in NO_VERSIONS {
+            let made_for = self.any_version();
+            let good = make::entries(&mut self.random, made_for, 60).concat();
+            let long = make::filling(&mut self.random, made_for, 1494).concat();
+            for entries in [&[][..], &good, &long, &[6, 0], &[0]] {
+                let frame = self.any_fields(20, &[], entries);
+                for room in [0, frame.length(), 2000] {
+                    let wanted = Wanted::Refusal(10);
+                    self.write(version, "versions that are none", &frame, room, wanted);
+                }
+            }
         }
     }
 }
@@ -314,6 +361,7 @@ fn wanted(good: bool, length: usize, room: usize) -> Wanted<'static> {
 /// Checks the plain writer's answer and buffer by themselves: what was wanted,
 /// all else in its place, and the frame read back to its fields.
 fn wanted_buffer(
+    version: Result<Version, u8>,
     frame: &Frame,
     answer: Result<usize, u8>,
     wanted: Wanted,
@@ -326,7 +374,8 @@ fn wanted_buffer(
     if before[..start] != after[..start] || before[end..] != after[end..] {
         return Err("all other bytes stay".to_string());
     }
-    if answer.is_ok() && frame::read(bytes) != Ok(*frame) {
+    let read = version.and_then(|version| frame::read(version, bytes));
+    if answer.is_ok() && read != Ok(*frame) {
         return Err("the frame reads back to its fields".to_string());
     }
     let right = match wanted {
@@ -349,7 +398,7 @@ fn written(answer: Result<usize, u8>) -> Written {
 }
 
 /// The proved writer of the frame's code, given its fields.
-pub fn write_proved(frame: &Frame, out: &mut [u8]) -> Written {
+pub fn write_proved(version: u8, frame: &Frame, out: &mut [u8]) -> Written {
     match *frame {
         Frame::LoadTransfer {
             number,
@@ -398,7 +447,7 @@ pub fn write_proved(frame: &Frame, out: &mut [u8]) -> Written {
             number,
             entries,
             transfer,
-        } => mop_proved::write_parameters(number, entries, transfer, out),
+        } => mop_proved::write_parameters(version, number, entries, transfer, out),
         Frame::Loop { receipt, data } => mop_proved::write_loop(receipt, data, out),
         Frame::Looped { receipt, data } => mop_proved::write_looped(receipt, data, out),
     }

@@ -22,7 +22,7 @@ static bool await(uint8_t code, bool multicast, int64_t milliseconds)
     while (line_receive(&l, &frame, deadline) == LINE_FRAME) {
         for (size_t i = 0; i < ADDRESS_LENGTH; i++)
             machine[i] = frame.from[i];
-        if (mop_read(frame.bytes, frame.length).code == code && frame.multicast == multicast)
+        if (mop_read(MOP_VERSION_3_0, frame.bytes, frame.length).code == code && frame.multicast == multicast)
             return true;
     }
     return false;

@@ -48,7 +48,7 @@ static size_t message(uint8_t *out)
     case 4:
         return mop_write_dump_data(3 * below(20000), data, 1 + below(3), out, MOP_FRAME_MOST).length;
     case 5:
-        return mop_write_parameters(data[0] & 1, name, sizeof name, 0, out, MOP_FRAME_MOST).length;
+        return mop_write_parameters(MOP_VERSION_2_1, data[0] & 1, name, sizeof name, 0, out, MOP_FRAME_MOST).length;
     default:
         out[0] = codes[below(sizeof codes)];
         memcpy(out + 1, data, sizeof data - 1);

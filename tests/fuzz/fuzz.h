@@ -52,8 +52,12 @@ void put_byte(uint8_t byte);
 void put_bytes(const void *bytes, size_t length);
 void put_low_first(uint32_t value, size_t length);
 
-/* A good parameter string of at most so many bytes: its length. */
-size_t any_entries(uint8_t *to, size_t most);
+/* The version of a session: now and then one that is none. */
+uint8_t any_version(void);
+bool is_version(uint8_t version);
+
+/* A parameter string of at most so many bytes that is good under the version: its length. */
+size_t any_entries(uint8_t version, uint8_t *to, size_t most);
 
 /* Changes, adds, removes or doubles a few bytes. New ones are of the letters, if there are any. */
 void mutate(const char *letters);

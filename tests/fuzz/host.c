@@ -151,12 +151,13 @@ static void hand_frame(host *h, session *s)
     if (!taken)
         return;
     bool foreign = h->named && memcmp(frame.from, h->machine, ADDRESS_LENGTH) != 0;
-    bool readable = mop_read(frame.bytes, frame.length).refusal == MOP_ACCEPTED;
+    bool readable = mop_read(s->load_settings.version, frame.bytes, frame.length).refusal == MOP_ACCEPTED;
     require(take(h, &frame) == 0, "no frame ends a session by an error");
     size_t count = check_sent(h, s, &frame);
     require(!foreign || (count == 0 && same_record(&before, s)), "a stranger's frame does nothing");
     require((readable && !frame.multicast) || same_record(&before, s), "the record is as it was");
     require(readable || count == 0, "a frame that cannot be read is not answered");
+    require(is_version(s->load_settings.version) || count == 0, "a session of no version is not begun");
 }
 
 /* Only a session that has begun has a timer. */
@@ -180,11 +181,15 @@ static void make_session(session *s)
     memcpy(s->image + IMAGE_LENGTH - sizeof rest, rest, sizeof rest);
     s->load = mop_load_start();
     s->taken = mop_dump_start();
-    s->load_settings =
-        (mop_load_settings){.segment_size = 10 + below(200), .repeats = below(8), .with_parameters = one_in(2)};
-    s->string_length = any_entries(s->string, sizeof s->string);
-    s->dump_settings = (mop_dump_settings){
-        .length = DUMP_LENGTH, .address = below(1000), .request_bytes = 20 + below(40), .repeats = below(8)};
+    const uint8_t version = any_version();
+    s->load_settings = (mop_load_settings){
+        .segment_size = 10 + below(200), .repeats = below(8), .with_parameters = one_in(2), .version = version};
+    s->string_length = any_entries(version, s->string, sizeof s->string);
+    s->dump_settings = (mop_dump_settings){.length = DUMP_LENGTH,
+        .address = below(1000),
+        .request_bytes = 20 + below(40),
+        .repeats = below(8),
+        .version = version};
 }
 
 static bool fuzz_session(bool dump)

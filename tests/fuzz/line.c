@@ -125,7 +125,7 @@ bool sent_next(sent_frame *sent)
     size_t says = raw[14] + (size_t)256 * raw[15];
     require(raw[12] == 0x60 && raw[13] == 0x01 && memcmp(raw + 6, OWN, 6) == 0, "a frame has our type and address");
     require(says + 16 == (size_t)got || (got == 60 && says < 44), "a frame ends with its message or is padded");
-    mop_fields fields = mop_read(raw + 16, says);
+    mop_fields fields = mop_read(MOP_VERSION_3_0, raw + 16, says);
     require(fields.refusal == MOP_ACCEPTED, "a message that is sent can be read");
     memcpy(sent->to, raw, ADDRESS_LENGTH);
     sent->code = fields.code;

@@ -6,7 +6,7 @@
 #include "fuzz.h"
 #include "slow.h"
 
-#define MEMORY_LENGTH 256
+#define MEMORY_MOST 256
 #define STRING_MOST 100
 
 int mopmachine_main(int count, char **words);
@@ -23,7 +23,8 @@ static mop_written host_message(const machine_end *m, uint8_t *message)
 {
     static const uint8_t data[40] = {1, 2, 3, 4, 5};
     uint8_t string[STRING_MOST];
-    uint32_t at = below(MEMORY_LENGTH - 20), length = below(sizeof data);
+    uint8_t version = one_in(12) ? MOP_VERSION_3_0 : m->settings.version;
+    uint32_t at = below((uint32_t)m->memory.length), length = below(sizeof data);
     uint8_t number = (uint8_t)(m->machine.state == MOP_MACHINE_LOADING ? m->machine.expected - one_in(12) : 0);
     if (memcmp(m->host, ASSISTANCE, ADDRESS_LENGTH) == 0 || one_in(12))
         return mop_write_volunteer(message, MOP_FRAME_MOST);
@@ -37,8 +38,8 @@ static mop_written host_message(const machine_end *m, uint8_t *message)
     case 3:
         return mop_write_dump_complete(message, MOP_FRAME_MOST);
     case 4:
-        return mop_write_parameters(
-            number, string, any_entries(string, sizeof string), any_number(), message, MOP_FRAME_MOST);
+        return mop_write_parameters(version, number, string, any_entries(version, string, sizeof string), any_number(),
+            message, MOP_FRAME_MOST);
     default:
         return mop_write_load(number, at, data, length, message, MOP_FRAME_MOST);
     }
@@ -61,28 +62,36 @@ static size_t check_sent(const machine_end *m)
     return count;
 }
 
-/* Whether a byte of the load would go into the ROM window. */
-static bool in_rom(const mop_window *rom, const mop_fields *load)
+/* Whether one of so many bytes would go into the ROM window. */
+static bool in_rom(const mop_window *rom, uint64_t at, uint64_t length)
 {
-    for (uint64_t i = 0; i < load->data_length; i++)
-        if (load->address + i >= rom->start && load->address + i < rom->start + rom->length)
+    for (uint64_t i = 0; i < length; i++)
+        if (at + i >= rom->start && at + i < rom->start + rom->length)
             return true;
     return false;
 }
 
-/* Memory is the old one, or the old one with the frame's data laid over it beside the ROM. */
+/* Memory is the old one, or the old one with the frame's data, or its parameter block, laid over it beside the ROM. */
 static void check_memory(const machine_end *m, uint8_t *old, const line_frame *frame, bool foreign)
 {
-    mop_fields fields = mop_read(frame->bytes, frame->length);
-    bool load =
-        fields.refusal == MOP_ACCEPTED && (fields.code == MOP_CODE_LOAD || fields.code == MOP_CODE_LOAD_TRANSFER);
-    if (memcmp(old, m->memory.bytes, MEMORY_LENGTH) == 0)
+    const size_t length = m->memory.length;
+    mop_fields fields = mop_read(m->settings.version, frame->bytes, frame->length);
+    size_t at = fields.address, count = fields.data_length;
+    bool load = fields.code == MOP_CODE_LOAD || fields.code == MOP_CODE_LOAD_TRANSFER;
+    bool block = m->given && m->settings.version == MOP_VERSION_2_1;
+    if (!block && memcmp(old, m->memory.bytes, length) == 0)
         return;
-    require(load && !foreign && (uint64_t)fields.address + fields.data_length <= MEMORY_LENGTH,
-        "memory is changed by the host's loads alone");
-    require(!in_rom(&m->settings.window, &fields), "no load touches the ROM");
-    memcpy(old + fields.address, frame->bytes + fields.data_at, fields.data_length);
-    require(memcmp(old, m->memory.bytes, MEMORY_LENGTH) == 0, "a load changes memory where it says");
+    require((load || block) && !foreign, "memory is changed by the host's loads alone");
+    if (block) {
+        at = slow_block(old, length, frame->bytes + fields.data_at, fields.data_length);
+        count = 14;
+        require(at == parameters_block_at(length), "the block is where it is said to be");
+    }
+    require(at + count <= length, "what is laid lies in memory");
+    require(!in_rom(&m->settings.window, at, count), "no load touches the ROM");
+    if (load)
+        memcpy(old + at, frame->bytes + fields.data_at, count);
+    require(memcmp(old, m->memory.bytes, length) == 0, "a load changes memory where it says");
 }
 
 static void check_value(const mop_value *value, const line_frame *frame, const mop_fields *fields, int type)
@@ -96,7 +105,7 @@ static void check_value(const mop_value *value, const line_frame *frame, const m
 static void check_kept(const machine_end *m, const mop_machine *before, const line_frame *frame)
 {
     const mop_parameters *p = &m->machine.parameters;
-    mop_fields fields = mop_read(frame->bytes, frame->length);
+    mop_fields fields = mop_read(m->settings.version, frame->bytes, frame->length);
     bool starts = before->state != MOP_MACHINE_STARTED && m->machine.state == MOP_MACHINE_STARTED;
     require(m->given == (starts && fields.code == MOP_CODE_PARAMETERS), "parameters start it or not");
     if (!m->given) {
@@ -113,7 +122,7 @@ static void check_kept(const machine_end *m, const mop_machine *before, const li
 
 static void hand_frame(machine_end *m)
 {
-    uint8_t message[MOP_FRAME_MOST], old[MEMORY_LENGTH];
+    uint8_t message[MOP_FRAME_MOST], old[MEMORY_MOST];
     line_frame frame;
     mop_written written = host_message(m, message);
     require(written.refusal == MOP_ACCEPTED, "the fuzzer's own message is good");
@@ -126,7 +135,7 @@ static void hand_frame(machine_end *m)
     const mop_machine before = m->machine;
     bool chosen = memcmp(m->host, ASSISTANCE, ADDRESS_LENGTH) != 0;
     bool foreign = frame.multicast || memcmp(frame.from, m->host, ADDRESS_LENGTH) != 0;
-    memcpy(old, m->memory.bytes, MEMORY_LENGTH);
+    memcpy(old, m->memory.bytes, m->memory.length);
     require(hand_over(m, &frame) == 0, "no frame ends a machine by an error");
     size_t count = check_sent(m);
     check_memory(m, old, &frame, foreign);
@@ -143,7 +152,7 @@ static void hand_frame(machine_end *m)
 static void any_rom(mop_window *rom)
 {
     const uint64_t addresses = (uint64_t)UINT32_MAX + 1;
-    uint64_t from = one_in(4) ? any_number() : below(MEMORY_LENGTH), length = one_in(4) ? any_number() : below(60);
+    uint64_t from = one_in(4) ? any_number() : below(MEMORY_MOST), length = one_in(4) ? any_number() : below(60);
     char words[2][24];
     if (one_in(8))
         from = 0;
@@ -158,20 +167,37 @@ static void any_rom(mop_window *rom)
         rom->length = 0;
 }
 
+/* Its memory ends where the memory of this program does, so that a step beyond is seen. */
+static void make_machine(machine_end *m)
+{
+    const size_t length = one_in(8) ? 1 + below(70) : 64 + below(one_in(2) ? 4 : MEMORY_MOST - 63);
+    memset(m, 0, sizeof *m);
+    m->common.timer = m->common.wait = 1000;
+    m->memory = (contents){malloc(length), length};
+    require(m->memory.bytes != NULL, "there is memory");
+    for (size_t i = 0; i < length; i++)
+        m->memory.bytes[i] = (uint8_t)below(256);
+    m->settings.reply_bytes = 1 + below(MOP_ETHERNET_DUMP_DATA_MOST);
+    m->settings.version = any_version();
+    any_rom(&m->settings.window);
+    m->offer = one_in(4);
+    line_make(&m->line);
+}
+
+/* Whether it begins: it has a version, and memory enough for that. */
+static bool begins(machine_end *m)
+{
+    bool good = is_version(m->settings.version) && (m->settings.version != 21 || m->memory.length >= 64);
+    require((start(m) == 0) == good && check_sent(m) == good, "a machine begins with a frame, or does not begin");
+    return good;
+}
+
 bool fuzz_machine(void)
 {
-    static uint8_t memory[MEMORY_LENGTH];
     static machine_end m;
-    memset(memory, 0, sizeof memory);
-    memset(&m, 0, sizeof m);
-    m.common.timer = m.common.wait = 1000;
-    m.memory = (contents){memory, MEMORY_LENGTH};
-    m.settings.reply_bytes = 1 + below(MOP_ETHERNET_DUMP_DATA_MOST);
-    any_rom(&m.settings.window);
-    m.offer = one_in(4);
-    line_make(&m.line);
-    require(start(&m) == 0 && check_sent(&m) == 1, "a machine begins with a frame");
-    for (unsigned event = 0; event < 80 && m.machine.state != MOP_MACHINE_STARTED; event++) {
+    make_machine(&m);
+    const unsigned events = begins(&m) ? 80 : 0;
+    for (unsigned event = 0; event < events && m.machine.state != MOP_MACHINE_STARTED; event++) {
         if (one_in(8)) {
             require(timer(&m) == 0, "a timer ends no machine by an error");
             check_sent(&m);
@@ -179,5 +205,6 @@ bool fuzz_machine(void)
             hand_frame(&m);
         }
     }
+    free(m.memory.bytes);
     return m.machine.state == MOP_MACHINE_STARTED;
 }

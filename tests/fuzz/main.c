@@ -86,6 +86,17 @@ uint32_t any_number(void)
     return bounds[below(sizeof bounds / sizeof bounds[0])] + below(9) - 4;
 }
 
+uint8_t any_version(void)
+{
+    static const uint8_t versions[] = {21, 30};
+    return one_in(16) ? (uint8_t)(one_in(2) ? next() : 19 + below(13)) : versions[below(2)];
+}
+
+bool is_version(uint8_t version)
+{
+    return version == 21 || version == 30;
+}
+
 /* ---- The input ------------------------------------------------------- */
 
 void put_byte(uint8_t byte)

@@ -142,9 +142,16 @@ static void check_entry(const parameters *p, int type, const uint8_t *want, size
     require(p->length == 2 + length && p->bytes[0] == type && p->bytes[1] == length &&
                 memcmp(p->bytes + 2, want, length) == 0,
         "the string is the entry that the slow reader finds");
-    require(parameters_try(p, MOP_ETHERNET_FRAME_MOST, "line") == 0, "the library writes it");
-    require(parameters_try(p, (uint32_t)(6 + p->length), "line") != 0, "a line that is too short is seen");
     check_words(p, type, want, length);
+    uint8_t version = any_version();
+    if (!is_version(version)) {
+        require(parameters_try(p, version, MOP_ETHERNET_FRAME_MOST, "line") != 0, "a version that is none is seen");
+        return;
+    }
+    bool has = slow_has(version, type, length);
+    require((parameters_check(p, version) == 0) == has, "what the version does not have is seen");
+    require((parameters_try(p, version, MOP_ETHERNET_FRAME_MOST, "line") == 0) == has, "the library says the same");
+    require(parameters_try(p, version, (uint32_t)(6 + p->length), "line") != 0, "a line that is too short is seen");
 }
 
 static bool fuzz_option(int type)
@@ -186,13 +193,16 @@ bool fuzz_time(void)
 
 /* ---- Strings --------------------------------------------------------- */
 
-size_t any_entries(uint8_t *to, size_t most)
+size_t any_entries(uint8_t version, uint8_t *to, size_t most)
 {
+    const bool old = version == MOP_VERSION_2_1;
     static const uint8_t time[] = {19, 85, 3, 31, 14, 5, 59, 7, 0xFB, 0xE2};
     size_t length = 0;
     while (most - length >= 18 && !one_in(5)) {
-        uint8_t type = (uint8_t)(1 + below(5));
-        size_t count = type == MOP_ENTRY_HOST_TIME ? sizeof time : below(type % 2 == 1 ? 17 : 7);
+        uint8_t type = (uint8_t)(1 + below(old ? 4 : 5));
+        size_t count = type == MOP_ENTRY_HOST_TIME ? sizeof time
+                       : type % 2 == 1             ? below(old ? 7 : 17)
+                                                   : below(old ? 3 : 7);
         to[length++] = type;
         to[length++] = (uint8_t)count;
         for (size_t i = 0; i < count; i++)

@@ -284,3 +284,32 @@ size_t slow_entry(const uint8_t *entries, size_t length, int type, uint8_t bytes
     }
     return found;
 }
+
+bool slow_has(int version, int type, size_t length)
+{
+    static const size_t most[] = {0, 6, 2, 6, 2, 0};
+    return version != 21 || (type != 5 && length <= most[type]);
+}
+
+/* Two bytes of the target address, six of each name; of one that is not there only the first two are written. */
+size_t slow_block(uint8_t *memory, size_t memory_length, const uint8_t *entries, size_t length)
+{
+    static const struct {
+        int type;
+        size_t from, to;
+        uint8_t behind;
+    } parts[] = {{2, 0, 2, 0}, {1, 2, 8, ' '}, {3, 8, 14, ' '}};
+    size_t top = memory_length;
+    while (top % 2 != 0)
+        top++;
+    for (size_t k = 0; k < 3; k++) {
+        uint8_t bytes[16];
+        size_t count = slow_entry(entries, length, parts[k].type, bytes);
+        size_t end = count > 0 ? parts[k].to : parts[k].from + 2;
+        for (size_t i = parts[k].from; i < end; i++)
+            memory[top - 64 + i] = count == 0                  ? 0
+                                   : i - parts[k].from < count ? bytes[i - parts[k].from]
+                                                               : parts[k].behind;
+    }
+    return top - 64;
+}

@@ -41,4 +41,10 @@ bool slow_time(const char *text, uint8_t *bytes, size_t *count);
 /* What the entries of a code 20 say of a type: the bytes of its last value and zeros up to 16; the length. */
 size_t slow_entry(const uint8_t *entries, size_t length, int type, uint8_t bytes[16]);
 
+/* Whether a version has such an entry: 21 for 2.1, 30 for 3.0.0. */
+bool slow_has(int version, int type, size_t length);
+
+/* Lays what they say over a memory of version 2.1 with so many bytes; where that begins, for 14 bytes. */
+size_t slow_block(uint8_t *memory, size_t memory_length, const uint8_t *entries, size_t length);
+
 #endif

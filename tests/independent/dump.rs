@@ -3,6 +3,7 @@
 use crate::frame::{self, Frame};
 use crate::refusal::{BAD_RECORD, BAD_SETTING, Refusal};
 use crate::step::{Reply, Sent, Verdict, check_most, check_repeats, good_record};
+use crate::version::Version;
 
 /// C, the most bytes asked for at a time, is 1 to this.
 pub const ASK_MOST: u32 = 1495;
@@ -19,6 +20,7 @@ pub struct Settings {
     pub most: u32,
     /// R, the repeats allowed per frame.
     pub repeats: u32,
+    pub version: Version,
 }
 
 /// The session's record.
@@ -77,7 +79,7 @@ pub fn frame(
     reply: &mut [u8],
 ) -> Result<Sent, Refusal> {
     let reply = check(settings, *session, buffer, reply)?;
-    let frame = frame::read(bytes)?;
+    let frame = frame::read(settings.version, bytes)?;
     Ok(match (session, frame) {
         (session @ Session::Waiting, Frame::RequestDumpService { .. }) => {
             let mut progress = Progress {

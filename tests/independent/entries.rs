@@ -2,8 +2,11 @@
 //! They are judged byte by byte: type, length, then the value. A machine keeps
 //! what they say (PROTOCOL 4, "Machine end").
 
+use std::ops::RangeInclusive;
+
 use crate::cursor::Cursor;
 use crate::refusal::{OUTSIDE_LIST, Refusal};
+use crate::version::Version;
 
 /// Ends the entries in a frame; no entry has this type.
 const END_MARK: u8 = 0;
@@ -13,10 +16,6 @@ const TARGET_ADDRESS: u8 = 2;
 const HOST_NAME: u8 = 3;
 const HOST_ADDRESS: u8 = 4;
 const HOST_TIME: u8 = 5;
-
-const NAME_MOST: u8 = 16;
-const ADDRESS_MOST: u8 = 6;
-const TIME_LENGTH: u8 = 10;
 
 /// No value is longer.
 pub const VALUE_MOST: usize = 16;
@@ -91,7 +90,7 @@ impl Kept {
 /// Takes the entries and their end mark, and gives the entries without it.
 /// The walk knows nothing of the transfer address behind: an entry may
 /// swallow it, and then the bytes run out.
-pub(crate) fn take<'a>(cursor: &mut Cursor<'a>) -> Result<&'a [u8], Refusal> {
+pub(crate) fn take<'a>(version: Version, cursor: &mut Cursor<'a>) -> Result<&'a [u8], Refusal> {
     let all = cursor.peek();
     loop {
         let before = cursor.peek().len();
@@ -99,15 +98,17 @@ pub(crate) fn take<'a>(cursor: &mut Cursor<'a>) -> Result<&'a [u8], Refusal> {
         if kind == END_MARK {
             return Ok(&all[..all.len() - before]);
         }
-        entry(kind, cursor)?;
+        entry(version, kind, cursor)?;
     }
 }
 
 /// Whether a string is whole entries, with no end mark among them.
-pub fn are_good(string: &[u8]) -> bool {
+pub fn are_good(version: Version, string: &[u8]) -> bool {
     let mut cursor = Cursor::new(string);
     while !cursor.is_empty() {
-        let whole = cursor.u8().and_then(|kind| entry(kind, &mut cursor));
+        let whole = cursor
+            .u8()
+            .and_then(|kind| entry(version, kind, &mut cursor));
         if whole.is_err() {
             return false;
         }
@@ -115,36 +116,31 @@ pub fn are_good(string: &[u8]) -> bool {
     true
 }
 
-/// The rest of an entry whose type has been read.
-fn entry(kind: u8, cursor: &mut Cursor) -> Result<(), Refusal> {
-    match kind {
-        TARGET_NAME | HOST_NAME => short_value(NAME_MOST, cursor),
-        TARGET_ADDRESS | HOST_ADDRESS => short_value(ADDRESS_MOST, cursor),
-        HOST_TIME => host_time(cursor),
-        _ => Err(OUTSIDE_LIST),
+/// The lengths that a value of this type may have, if the version lists it.
+fn lengths(version: Version, kind: u8) -> Option<RangeInclusive<u8>> {
+    match (kind, version) {
+        (TARGET_NAME | HOST_NAME, Version::V2_1) => Some(0..=6),
+        (TARGET_NAME | HOST_NAME, Version::V3_0) => Some(0..=16),
+        (TARGET_ADDRESS | HOST_ADDRESS, Version::V2_1) => Some(0..=2),
+        (TARGET_ADDRESS | HOST_ADDRESS, Version::V3_0) => Some(0..=6),
+        (HOST_TIME, Version::V3_0) => Some(10..=10),
+        _ => None,
     }
 }
 
-/// Length and value of a name or an address.
-fn short_value(most: u8, cursor: &mut Cursor) -> Result<(), Refusal> {
+/// The rest of an entry whose type has been read. A bad field of a time that
+/// is there is found before the end of one that is cut short.
+fn entry(version: Version, kind: u8, cursor: &mut Cursor) -> Result<(), Refusal> {
+    let lengths = lengths(version, kind).ok_or(OUTSIDE_LIST)?;
     let length = cursor.u8()?;
-    if length > most {
+    if !lengths.contains(&length) {
+        return Err(OUTSIDE_LIST);
+    }
+    let present = cursor.peek().len().min(length.into());
+    if kind == HOST_TIME && !time_is_good(&cursor.peek()[..present]) {
         return Err(OUTSIDE_LIST);
     }
     cursor.take(length.into()).map(|_| ())
-}
-
-/// Length and value of a host time. A bad field that is there is found before
-/// the end of a time that is cut short.
-fn host_time(cursor: &mut Cursor) -> Result<(), Refusal> {
-    if cursor.u8()? != TIME_LENGTH {
-        return Err(OUTSIDE_LIST);
-    }
-    let present = cursor.peek().len().min(TIME_LENGTH.into());
-    if !time_is_good(&cursor.peek()[..present]) {
-        return Err(OUTSIDE_LIST);
-    }
-    cursor.take(TIME_LENGTH.into()).map(|_| ())
 }
 
 /// Whether those fields of a time that are there are good. There is no

@@ -6,6 +6,7 @@ use std::ops::RangeInclusive;
 use crate::cursor::{Cursor, Pen};
 use crate::entries;
 use crate::refusal::{OUTSIDE_LIST, Refusal, SMALL_BUFFER, TOO_LONG, TOO_SHORT, UNKNOWN_CODE};
+use crate::version::Version;
 
 /// No frame has more bytes.
 pub const LONGEST: usize = 1500;
@@ -68,8 +69,8 @@ pub enum Frame<'a> {
 }
 
 /// Reads a frame. The order is: empty, code, least length, excess, then the
-/// bytes in turn.
-pub fn read(bytes: &[u8]) -> Result<Frame<'_>, Refusal> {
+/// bytes in turn. The version matters to code 20 alone.
+pub fn read(version: Version, bytes: &[u8]) -> Result<Frame<'_>, Refusal> {
     let (&code, fields) = bytes.split_first().ok_or(TOO_SHORT)?;
     let lengths = lengths(code).ok_or(UNKNOWN_CODE)?;
     if bytes.len() < *lengths.start() {
@@ -78,7 +79,7 @@ pub fn read(bytes: &[u8]) -> Result<Frame<'_>, Refusal> {
     if bytes.len() > *lengths.end() {
         return Err(TOO_LONG);
     }
-    read_fields(code, Cursor::new(fields))
+    read_fields(version, code, Cursor::new(fields))
 }
 
 /// The lengths that a frame of this code may have, if it is listed.
@@ -99,7 +100,7 @@ fn lengths(code: u8) -> Option<RangeInclusive<usize>> {
 }
 
 /// The fields behind the code, in turn.
-fn read_fields(code: u8, mut from: Cursor) -> Result<Frame, Refusal> {
+fn read_fields(version: Version, code: u8, mut from: Cursor) -> Result<Frame, Refusal> {
     Ok(match code {
         0 => Frame::LoadTransfer {
             number: from.u8()?,
@@ -134,7 +135,7 @@ fn read_fields(code: u8, mut from: Cursor) -> Result<Frame, Refusal> {
             address: from.u32()?,
             data: from.take_all(),
         },
-        20 => return read_parameters(from),
+        20 => return read_parameters(version, from),
         24 => Frame::Loop {
             receipt: from.u16()?,
             data: from.take_all(),
@@ -169,9 +170,9 @@ fn read_request_program(mut from: Cursor) -> Result<Frame, Refusal> {
     })
 }
 
-fn read_parameters(mut from: Cursor) -> Result<Frame, Refusal> {
+fn read_parameters(version: Version, mut from: Cursor) -> Result<Frame, Refusal> {
     let number = from.u8()?;
-    let entries = entries::take(&mut from)?;
+    let entries = entries::take(version, &mut from)?;
     let transfer = from.u32()?;
     from.finish()?;
     Ok(Frame::Parameters {
@@ -199,10 +200,15 @@ fn id_length(form: u8) -> Option<usize> {
 impl Frame<'_> {
     /// Writes the frame to the buffer's start and gives its length. The order
     /// is: a field outside its list, too long, buffer too short.
-    pub fn write(&self, buffer: &mut [u8]) -> Result<usize, Refusal> {
-        if !self.is_good() {
+    pub fn write(&self, version: Version, buffer: &mut [u8]) -> Result<usize, Refusal> {
+        if !self.is_good(version) {
             return Err(OUTSIDE_LIST);
         }
+        self.write_good(buffer)
+    }
+
+    /// The same for a frame whose fields are all inside their lists.
+    pub(crate) fn write_good(&self, buffer: &mut [u8]) -> Result<usize, Refusal> {
         let length = self.length();
         if length > LONGEST {
             return Err(TOO_LONG);
@@ -246,12 +252,12 @@ impl Frame<'_> {
     }
 
     /// Whether every field is inside its list.
-    fn is_good(&self) -> bool {
+    fn is_good(&self, version: Version) -> bool {
         match *self {
             Frame::RequestProgram {
                 program, form, id, ..
             } => is_program(program) && id_length(form) == Some(id.len()),
-            Frame::Parameters { entries, .. } => entries::are_good(entries),
+            Frame::Parameters { entries, .. } => entries::are_good(version, entries),
             _ => true,
         }
     }

@@ -1,11 +1,12 @@
 //! The maintenance operation protocol in plain Rust, written from the specification
-//! and DEC's document 3.0.0 alone, to compare the proved library with.
+//! and DEC's documents alone, to compare the proved library with.
 //!
 //! Nothing but the rehearsal allocates: what is read borrows from the bytes
 //! that were given, and a writer fills the buffer that was lent.
 
 #![forbid(unsafe_code)]
 
+mod block;
 mod cursor;
 pub mod dump;
 pub mod entries;
@@ -17,3 +18,4 @@ pub mod machine;
 pub mod refusal;
 pub mod rehearsal;
 pub mod step;
+pub mod version;

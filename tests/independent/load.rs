@@ -5,6 +5,7 @@ use crate::frame::{self, Frame};
 use crate::image::{self, Image, SEGMENT_MOST};
 use crate::refusal::{BAD_RECORD, BAD_SETTING, OUTSIDE_LIST, Refusal, TOO_LONG};
 use crate::step::{Reply, Sent, Verdict, check_most, check_repeats, good_record};
+use crate::version::Version;
 
 /// No parameter string is longer: code 20 has 7 bytes besides.
 pub const STRING_MOST: usize = 1493;
@@ -20,6 +21,7 @@ pub struct Settings<'a> {
     pub repeats: u32,
     /// The parameter string that the load ends with, perhaps an empty one.
     pub parameters: Option<&'a [u8]>,
+    pub version: Version,
 }
 
 /// The string, if its mark says that one is given; otherwise it is not looked
@@ -82,7 +84,7 @@ pub fn frame(
     reply: &mut [u8],
 ) -> Result<Sent, Refusal> {
     let (frames, reply) = check(settings, *session, file, reply)?;
-    let frame = frame::read(bytes)?;
+    let frame = frame::read(settings.version, bytes)?;
     Ok(match (session, frame) {
         (
             session @ Session::Waiting,
@@ -148,13 +150,15 @@ fn check<'l, 'r>(
     if let Session::Begun(progress) = session {
         good_record(progress.is_good(settings.repeats, frames.count()))?;
     }
-    settings.parameters.map_or(Ok(()), check_string)?;
+    if let Some(string) = settings.parameters {
+        check_string(settings.version, string)?;
+    }
     Ok((frames, reply))
 }
 
 /// Entries that break a rule come before a string that is too long.
-fn check_string(string: &[u8]) -> Result<(), Refusal> {
-    if !entries::are_good(string) {
+fn check_string(version: Version, string: &[u8]) -> Result<(), Refusal> {
+    if !entries::are_good(version, string) {
         return Err(OUTSIDE_LIST);
     }
     if string.len() > STRING_MOST {

@@ -3,6 +3,7 @@
 use crate::frame::{self, Frame};
 use crate::refusal::{BAD_RECORD, BAD_SETTING, Refusal};
 use crate::step::{Reply, Sent, check_repeats, good_record};
+use crate::version::Version;
 
 /// No loop data is longer.
 pub const DATA_MOST: usize = 1497;
@@ -14,6 +15,7 @@ pub struct Settings<'a> {
     pub repeats: u32,
     pub receipt: u16,
     pub data: &'a [u8],
+    pub version: Version,
 }
 
 /// How a test stands, with its number in the record.
@@ -73,7 +75,7 @@ pub fn frame(
     reply: &mut [u8],
 ) -> Result<Sent, Refusal> {
     check(settings, *session, reply)?;
-    let frame = frame::read(bytes)?;
+    let frame = frame::read(settings.version, bytes)?;
     if session.verdict == Verdict::Open {
         session.verdict = settings.verdict_on(frame);
     }

@@ -1,10 +1,12 @@
 //! The machine end (PROTOCOL 4, "Machine end"). Its memory is a slice, address
 //! 0 first.
 
+use crate::block;
 use crate::entries::Kept;
 use crate::frame::{self, Frame};
-use crate::refusal::{BAD_RECORD, BAD_SETTING, Refusal};
+use crate::refusal::{BAD_RECORD, BAD_SETTING, Refusal, SMALL_MEMORY};
 use crate::step::{Reply, Sent, check_most};
+use crate::version::Version;
 
 /// D, the most bytes of a dump reply, is 1 to this.
 pub const DUMP_MOST: u32 = 1495;
@@ -23,6 +25,7 @@ pub struct Settings {
     pub dump_most: u32,
     pub device: u8,
     pub processor: u8,
+    pub version: Version,
     pub window: Window,
 }
 
@@ -49,12 +52,12 @@ impl Window {
         self.length == 0 || self.length <= room
     }
 
-    /// Whether data would go into the window: the greater of their starts is
-    /// below the lesser of their ends. A good window's end is no sum too big.
-    fn touches(&self, address: u32, data: &[u8]) -> bool {
-        let address = u64::from(address);
-        let start = address.max(self.start);
-        let end = (address + data.len() as u64).min(self.start + self.length);
+    /// Whether so many bytes would go into the window: the greater of their
+    /// starts is below the lesser of their ends. A good window's end is no sum
+    /// too big.
+    fn touches(&self, address: usize, length: usize) -> bool {
+        let start = self.start.max(address as u64);
+        let end = (address as u64 + length as u64).min(self.start + self.length);
         start < end
     }
 }
@@ -80,7 +83,7 @@ pub enum State {
 #[derive(Clone, Copy, Debug, PartialEq, Eq)]
 pub struct Machine {
     pub state: State,
-    /// What the last code 20 that was taken said.
+    /// What the code 20 that started it said.
     pub kept: Kept,
 }
 
@@ -183,8 +186,8 @@ pub fn frame(
 ) -> Result<Sent, Refusal> {
     check(settings, memory)?;
     let reply = Reply::new(reply)?;
-    let frame = frame::read(bytes)?;
-    let state = &mut machine.state;
+    let frame = frame::read(settings.version, bytes)?;
+    let Machine { state, kept } = machine;
     let window = settings.window;
     let store = Store { memory, window };
     Ok(match frame {
@@ -192,18 +195,22 @@ pub fn frame(
             number,
             address,
             data,
-        } => load(state, number, address, data, None, store, reply),
+        } => load(state, number, None, reply, || store.deposit(address, data)),
         Frame::LoadTransfer {
             number,
             address,
             data,
             transfer,
-        } => load(state, number, address, data, Some(transfer), store, reply),
+        } => load(state, number, Some(transfer), reply, || {
+            store.deposit(address, data)
+        }),
         Frame::Parameters {
             number,
             entries,
             transfer,
-        } => parameters(machine, number, entries, transfer, reply),
+        } => load(state, number, Some(transfer), reply, || {
+            store.keep(settings.version, Kept::of(entries), kept)
+        }),
         Frame::RequestDump { address, count } if matches!(state, State::Idle | State::Offering) => {
             let length = settings.dump_most.min(count.into()) as usize;
             dump(address, length, store.memory, reply)
@@ -219,27 +226,30 @@ pub fn frame(
     })
 }
 
+/// All of 10 comes before 11, and both before the reply buffer.
 fn check(settings: Settings, memory: &[u8]) -> Result<(), Refusal> {
     check_most(settings.dump_most, DUMP_MOST)?;
     if memory.len() > MEMORY_MOST || !settings.window.is_good() {
         return Err(BAD_SETTING);
     }
+    if settings.version == Version::V2_1 && memory.len() < block::MEMORY_LEAST {
+        return Err(SMALL_MEMORY);
+    }
     Ok(())
 }
 
-/// Code 2, or code 0 with its transfer address.
+/// Code 2, or code 0 or 20 with its transfer address. If its number is taken,
+/// `put` puts what it brings in its place, and says whether it fits.
 fn load(
     state: &mut State,
     number: u8,
-    address: u32,
-    data: &[u8],
     transfer: Option<u32>,
-    store: Store,
     reply: Reply,
+    put: impl FnOnce() -> bool,
 ) -> Sent {
     match judge(*state, number) {
         Number::Taken => {
-            let fits = store.deposit(address, data);
+            let fits = put();
             let expected = number.wrapping_add(1);
             let error = if fits { 0 } else { 1 };
             *state = match transfer {
@@ -247,27 +257,6 @@ fn load(
                 _ => State::Loading { expected, error },
             };
             acknowledge(expected, error, reply)
-        }
-        Number::Repeated { expected, error } => acknowledge(expected, error, reply),
-        Number::Ignored => None,
-    }
-}
-
-/// Code 20: its entries are kept, and the machine starts.
-fn parameters(
-    machine: &mut Machine,
-    number: u8,
-    entries: &[u8],
-    transfer: u32,
-    reply: Reply,
-) -> Sent {
-    match judge(machine.state, number) {
-        Number::Taken => {
-            *machine = Machine {
-                state: State::Started { transfer },
-                kept: Kept::of(entries),
-            };
-            acknowledge(number.wrapping_add(1), 0, reply)
         }
         Number::Repeated { expected, error } => acknowledge(expected, error, reply),
         Number::Ignored => None,
@@ -303,24 +292,33 @@ struct Store<'a> {
     window: Window,
 }
 
-impl Store<'_> {
+impl<'a> Store<'a> {
+    /// The place of so many bytes in memory, if all of them fit.
+    fn place(self, address: usize, length: usize) -> Option<&'a mut [u8]> {
+        if self.window.touches(address, length) {
+            return None;
+        }
+        self.memory.get_mut(address..)?.get_mut(..length)
+    }
+
     /// Puts data into memory if all of it fits, and says whether it did.
     fn deposit(self, address: u32, data: &[u8]) -> bool {
-        if self.window.touches(address, data) {
-            return false;
+        let place = self.place(address as usize, data.len());
+        place.map(|place| place.copy_from_slice(data)).is_some()
+    }
+
+    /// Keeps what a code 20 says if it fits, and says whether it did. Only
+    /// under version 2.1 it has a place in memory too.
+    fn keep(self, version: Version, said: Kept, kept: &mut Kept) -> bool {
+        if version == Version::V2_1 {
+            let start = block::start(self.memory.len());
+            let Some(place) = self.place(start, block::LENGTH) else {
+                return false;
+            };
+            block::lay(&said, place);
         }
-        let start = address as usize;
-        let place = self
-            .memory
-            .get_mut(start..)
-            .and_then(|rest| rest.get_mut(..data.len()));
-        match place {
-            Some(place) => {
-                place.copy_from_slice(data);
-                true
-            }
-            None => false,
-        }
+        *kept = said;
+        true
     }
 }
 

@@ -24,10 +24,12 @@ pub const BAD_REGION: Refusal = 7;
 pub const OUT_OF_ORDER: Refusal = 8;
 /// The reply or output buffer is too short.
 pub const SMALL_BUFFER: Refusal = 9;
-/// A setting, memory length, dump range, dump buffer or loop data is outside
-/// its range.
+/// A setting, version, memory length, dump range, dump buffer or loop data is
+/// outside its range.
 pub const BAD_SETTING: Refusal = 10;
 /// A record or state that cannot be.
 pub const BAD_RECORD: Refusal = 10;
 /// An input of the rehearsal is malformed or too long.
 pub const MALFORMED: Refusal = 10;
+/// Version 2.1 on a memory of under 64 bytes.
+pub const SMALL_MEMORY: Refusal = 11;

@@ -12,6 +12,7 @@ use crate::load::{self, Session};
 use crate::machine::{self, Machine, State};
 use crate::refusal::{MALFORMED, Refusal};
 use crate::step::{REPEATS_MOST, Sent, Verdict};
+use crate::version::Version;
 
 /// The longest input.
 pub const INPUT_MOST: usize = 8192;
@@ -20,10 +21,13 @@ pub const MEMORY_MOST: u32 = 4096;
 /// The frames that a queue holds.
 pub const PLACES: usize = 16;
 
+const VERSION: Version = Version::V3_0;
+
 const MACHINE: machine::Settings = machine::Settings {
     dump_most: 1,
     device: 0,
     processor: 0,
+    version: VERSION,
     window: machine::Window::NONE,
 };
 
@@ -122,6 +126,7 @@ impl Input {
                 segment_size: decimal(segment_size, 1, SEGMENT_MOST)?,
                 repeats: decimal(repeats, 0, REPEATS_MOST)?,
                 parameters: None,
+                version: VERSION,
             },
             file: hexadecimal(image)?,
             events: (events.iter())

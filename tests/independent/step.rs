@@ -52,7 +52,7 @@ impl<'a> Reply<'a> {
 
     /// Writes one of an end's own frames, which are all good.
     pub fn send(self, frame: &Frame) -> Sent {
-        let written = frame.write(self.buffer);
+        let written = frame.write_good(self.buffer);
         Some(written.expect("a good frame of at most 1,500 bytes"))
     }
 }

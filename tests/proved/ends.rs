@@ -17,6 +17,7 @@ pub struct MachineSettings {
     pub reply_bytes: u32,
     pub device: u8,
     pub processor: u8,
+    pub version: u8,
     pub window: Window,
 }
 
@@ -57,6 +58,7 @@ pub struct LoadSettings {
     pub segment_size: u32,
     pub repeats: u32,
     pub with_parameters: u8,
+    pub version: u8,
 }
 
 /// `mop_load`
@@ -78,6 +80,7 @@ pub struct DumpSettings {
     pub address: u32,
     pub request_bytes: u32,
     pub repeats: u32,
+    pub version: u8,
 }
 
 /// `mop_dump`

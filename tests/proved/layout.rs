@@ -47,18 +47,18 @@ layout! {
     mop_image = Image { segments, transfer, regions, refusal }
     mop_segment = Segment { at, length, address, last, refusal }
     mop_window = Window { start, length }
-    mop_machine_settings = MachineSettings { reply_bytes, device, processor, window }
+    mop_machine_settings = MachineSettings { reply_bytes, device, processor, version, window }
     mop_value = Value { length, bytes }
     mop_parameters = Parameters { target_name, target_address, host_name, host_address, host_time }
     mop_machine = Machine { transfer, state, expected, error, parameters }
     mop_machine_step = Step<Machine> { record machine, answer }
-    mop_load_settings = LoadSettings { segment_size, repeats, with_parameters }
+    mop_load_settings = LoadSettings { segment_size, repeats, with_parameters, version }
     mop_load = Load { position, sent, repeats, waiting, verdict }
     mop_load_step = Step<Load> { record session, answer }
-    mop_dump_settings = DumpSettings { length, address, request_bytes, repeats }
+    mop_dump_settings = DumpSettings { length, address, request_bytes, repeats, version }
     mop_dump = Dump { filled, replies, sent, repeats, waiting, verdict }
     mop_dump_step = Step<Dump> { record session, answer }
-    mop_loop_settings = LoopSettings { repeats, receipt }
+    mop_loop_settings = LoopSettings { repeats, receipt, version }
     mop_loop = Loop { sent, repeats, verdict }
     mop_loop_step = Step<Loop> { record session, answer }
 }

@@ -71,7 +71,7 @@ pub struct Segment {
 
 #[link(name = "mop", kind = "static")]
 unsafe extern "C" {
-    pub fn mop_read(frame: *const u8, frame_length: usize) -> Fields;
+    pub fn mop_read(version: u8, frame: *const u8, frame_length: usize) -> Fields;
     pub fn mop_write_load_transfer(
         number: u8,
         address: u32,
@@ -134,6 +134,7 @@ unsafe extern "C" {
     pub fn mop_write_dump_complete(out: *mut u8, out_length: usize) -> Written;
     pub fn mop_write_volunteer(out: *mut u8, out_length: usize) -> Written;
     pub fn mop_write_parameters(
+        version: u8,
         number: u8,
         entries: *const u8,
         entries_length: usize,
@@ -190,8 +191,8 @@ fn output(bytes: &mut [u8]) -> *mut u8 {
 // In every call below the pointers are good for the lengths beside them, and
 // an output buffer, being borrowed for writing, overlaps no input.
 
-pub fn read(frame: &[u8]) -> Fields {
-    unsafe { mop_read(input(frame), frame.len()) }
+pub fn read(version: u8, frame: &[u8]) -> Fields {
+    unsafe { mop_read(version, input(frame), frame.len()) }
 }
 
 pub fn write_load_transfer(
@@ -283,9 +284,25 @@ pub fn write_volunteer(out: &mut [u8]) -> Written {
     unsafe { mop_write_volunteer(output(out), out.len()) }
 }
 
-pub fn write_parameters(number: u8, entries: &[u8], transfer: u32, out: &mut [u8]) -> Written {
+pub fn write_parameters(
+    version: u8,
+    number: u8,
+    entries: &[u8],
+    transfer: u32,
+    out: &mut [u8],
+) -> Written {
     let (from, to) = (input(entries), output(out));
-    unsafe { mop_write_parameters(number, from, entries.len(), transfer, to, out.len()) }
+    unsafe {
+        mop_write_parameters(
+            version,
+            number,
+            from,
+            entries.len(),
+            transfer,
+            to,
+            out.len(),
+        )
+    }
 }
 
 pub fn write_loop(receipt: u16, data: &[u8], out: &mut [u8]) -> Written {

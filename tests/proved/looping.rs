@@ -8,6 +8,7 @@ use crate::{Step, input, output};
 pub struct LoopSettings {
     pub repeats: u32,
     pub receipt: u16,
+    pub version: u8,
 }
 
 /// `mop_loop`

@@ -10,6 +10,7 @@ use Rattle.host_time.specs.HostTime.{field}
 use Rattle.message.specs.Message.{memoryLoadTransfer, requestLoad, parameters}
 use Rattle.message.specs.Read.{refused, message, find, fields, read}
 use Rattle.message.specs.Write.{layout}
+use Rattle.version.specs.Version.{v30}
 use Rattle.window.specs.Window.{touches, none as no-window}
 use Rattle.memory.specs.Memory.{fits, bytesFrom}
 use Rattle.step.specs.Step.{Outcome, first}
@@ -46,19 +47,19 @@ seen m memory frame = record { machine = m; memory = memory; frame = frame }
 -- a step on a frame, with D 4 and a reply buffer of 1,500 bytes
 unfoldable pub step : Machine → List ℕ → Seen
 step m frame =
-    let out : Outcome Machine (List ℕ) = machineFrame (record { «reply_bytes» = 4; device = 0; processor = 0; window = no-window }) m frame memory (replicate 1500 0) in
+    let out : Outcome Machine (List ℕ) = machineFrame (record { «reply_bytes» = 4; device = 0; processor = 0; version = v30; window = no-window }) m frame memory (replicate 1500 0) in
     seen (out .end) (out .lent) (take (out .answer .length) (out .reply))
 
 pub record Cases : Type 0 where
-  pub K1 : read [] ≡ refused 1
-  pub K2 : read (0x0A ∷ 0x01 ∷ 0x00 ∷ []) ≡ message (requestLoad 1 0)
-  pub K3-short : read (0x0A ∷ 0x01 ∷ []) ≡ refused 1
-  pub K3-long : read (0x0A ∷ 0x01 ∷ 0x00 ∷ 0x00 ∷ []) ≡ refused 2
-  pub K4 : read (0x10 ∷ []) ≡ refused 3
+  pub K1 : read v30 [] ≡ refused 1
+  pub K2 : read v30 (0x0A ∷ 0x01 ∷ 0x00 ∷ []) ≡ message (requestLoad 1 0)
+  pub K3-short : read v30 (0x0A ∷ 0x01 ∷ []) ≡ refused 1
+  pub K3-long : read v30 (0x0A ∷ 0x01 ∷ 0x00 ∷ 0x00 ∷ []) ≡ refused 2
+  pub K4 : read v30 (0x10 ∷ []) ≡ refused 3
   pub K5 : (n a b c d e f g h : ℕ) →
-      read (0 ∷ n ∷ a ∷ b ∷ c ∷ d ∷ e ∷ f ∷ g ∷ h ∷ [])
+      read v30 (0 ∷ n ∷ a ∷ b ∷ c ∷ d ∷ e ∷ f ∷ g ∷ h ∷ [])
       ≡ message (memoryLoadTransfer n (number (a ∷ b ∷ c ∷ d ∷ [])) [] (number (e ∷ f ∷ g ∷ h ∷ [])))
-  pub K5-short : (n a b c d e f g : ℕ) → read (0 ∷ n ∷ a ∷ b ∷ c ∷ d ∷ e ∷ f ∷ g ∷ []) ≡ refused 1
+  pub K5-short : (n a b c d e f g : ℕ) → read v30 (0 ∷ n ∷ a ∷ b ∷ c ∷ d ∷ e ∷ f ∷ g ∷ []) ≡ refused 1
   pub K6 : refusal (image 0xFFFFFFFF 1 (7 ∷ []) 29) ≡ 0
   pub K6-beyond : refusal (image 0xFFFFFFFF 2 (7 ∷ 7 ∷ []) 30) ≡ 7
   -- two bytes at 6 fit; at 7 nothing is written, error 1
@@ -72,8 +73,8 @@ pub record Cases : Type 0 where
   pub K9 : step (loading none 255 0) (0x02 ∷ 0xFF ∷ 0x02 ∷ 0x00 ∷ 0x00 ∷ 0x00 ∷ 0xAA ∷ [])
       ≡ seen (loading none 0 0) (1 ∷ 2 ∷ 0xAA ∷ 4 ∷ 5 ∷ 6 ∷ 7 ∷ 8 ∷ []) (0x0A ∷ 0x00 ∷ 0x00 ∷ [])
   pub K10 : many 2 (regions (image 0 3 (7 ∷ 7 ∷ 7 ∷ []) 31)) ≡ 2
-  pub K11 : read (hostTime 0 226) ≡ message (parameters 0 (5 ∷ 10 ∷ 19 ∷ 83 ∷ 1 ∷ 1 ∷ 0 ∷ 0 ∷ 0 ∷ 0 ∷ 0 ∷ 226 ∷ []) 0)
-  pub K11-opposite : read (hostTime 1 226) ≡ refused 4
+  pub K11 : read v30 (hostTime 0 226) ≡ message (parameters 0 (5 ∷ 10 ∷ 19 ∷ 83 ∷ 1 ∷ 1 ∷ 0 ∷ 0 ∷ 0 ∷ 0 ∷ 0 ∷ 226 ∷ []) 0)
+  pub K11-opposite : read v30 (hostTime 1 226) ≡ refused 4
   -- two memory bytes, two zeros
   pub K12 : step (idle none) (0x04 ∷ 0x06 ∷ 0x00 ∷ 0x00 ∷ 0x00 ∷ 0x04 ∷ 0x00 ∷ [])
       ≡ seen (idle none) memory (0x0E ∷ 0x06 ∷ 0x00 ∷ 0x00 ∷ 0x00 ∷ 7 ∷ 8 ∷ 0 ∷ 0 ∷ [])

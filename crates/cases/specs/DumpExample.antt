@@ -13,6 +13,7 @@ use Rattle.step.specs.Step.{first}
 use Rattle.machine_record.specs.declared.Settings.{Settings as MachineSettings}
 use Rattle.machine_record.specs.Record as machine
 use Rattle.machine_checks.specs.Checks as machineChecks
+use Rattle.version.specs.Version.{v30}
 use Rattle.dump_record.specs.declared.Settings.{Settings as DumpSettings}
 use Rattle.dump_checks.specs.Checks as dumpChecks
 use Rattle.link.specs.Link.{Event, own, handToMachine, handToHost, hostTimer, run}
@@ -20,10 +21,10 @@ use Rattle.link_dump.specs.Model.{after}
 
 -- 3 bytes from address 1, at most 2 at a time, one repeat; a memory of 3 bytes
 abbrev pub s : DumpSettings
-s = record { length = 3; address = 1; «request_bytes» = 2; repeats = 1 }
+s = record { length = 3; address = 1; «request_bytes» = 2; repeats = 1; version = v30 }
 
 abbrev pub ms : MachineSettings
-ms = record { «reply_bytes» = 1495; device = 0; processor = 0; window = none }
+ms = record { «reply_bytes» = 1495; device = 0; processor = 0; version = v30; window = none }
 
 accepted : (dumpChecks.settled s 3 ≡ true) × (machineChecks.refusal ms machine.offering 3 1500 ≡ 0)
 unfolding first

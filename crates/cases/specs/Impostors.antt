@@ -12,15 +12,17 @@ use Rattle.octets.specs.Number.{number, low}
 use Rattle.buffer.specs.Lay.{over}
 use Rattle.entries_next.specs.Next.{next}
 use Rattle.entries.specs.Entries.{walk}
-use Rattle.window.specs.Window.{touches}
+use Rattle.window.specs.Window.{touches, none as no-window}
 use Rattle.memory.specs.Memory.{fits, bytesFrom}
 use Rattle.message.specs.Message.{dumpData}
+use Rattle.version.specs.Version.{v30}
 use Rattle.message.specs.Read.{find, fields, part}
 use Rattle.message.specs.Write.{layout}
 use Rattle.step.specs.Step.{first, sends}
 use Rattle.directory.specs.Directory.{trailerOf, entryOf, entries, demand, entriesRefusal}
 use Rattle.image.specs.Image.{many, segment}
 use Rattle.parameters.specs.Parameters.{latest, none}
+use Rattle.block.specs.Block.{cell, block}
 use Rattle.machine_record.specs.declared.Machine.{Machine}
 use Rattle.machine_record.specs.Record.{keeping}
 use Rattle.machine_next.specs.Next.{byNumber, onLoad, onParameters}
@@ -35,6 +37,7 @@ use Rattle.link_dump.specs.Model as dump
 use Rattle.link_dump.specs.Model.{Host, hostEnd, dumpEnds, Dumped}
 use Rattle.cases.specs.LoadExample as loaded
 use Rattle.cases.specs.ParametersExample as given
+use Rattle.cases.specs.VersionExample as versioned
 use Rattle.cases.specs.WindowExample as windowed
 use Rattle.cases.specs.DumpExample as dumped
 
@@ -69,7 +72,7 @@ leaves old refuses = refuses
 leaves old (acts e out) = acts (machineEnd (e .machine) old) out
 
 abbrev acknowledges : Ends Session End ⊥
-acknowledges = withMachine (λ e f b. pick (eqb (fields f .number) 0) (ours .machineFrame e f b) (leaves (e .memory) (ours .machineFrame e f b)))
+acknowledges = withMachine (λ e f b. pick (eqb (fields v30 f .number) 0) (ours .machineFrame e f b) (leaves (e .memory) (ours .machineFrame e f b)))
 
 pub acknowledges-only : Claim acknowledges 8 whole → ⊥
 unfolding run laidOver loaded.image number low find fields layout first trailerOf entryOf entries demand entriesRefusal many segment fits touches byNumber onLoad
@@ -93,7 +96,7 @@ finished refuses = refuses
 finished (acts h out) = acts (record { position = 2; sent = h .sent; repeats = 0; waiting = 0; verdict = 1 }) out
 
 abbrev hasty : Ends Session End ⊥
-hasty = withHost (λ h f b. pick (eqb (fields f .code) 10) (finished (ours .hostFrame h f b)) (ours .hostFrame h f b))
+hasty = withHost (λ h f b. pick (eqb (fields v30 f .code) 10) (finished (ours .hostFrame h f b)) (ours .hostFrame h f b))
 
 pub finished-on-first : Claim hasty 8 (take 3 whole) → ⊥
 unfolding run laidOver loaded.image number low find fields layout first trailerOf entryOf entries demand entriesRefusal many segment fits touches byNumber onLoad
@@ -148,6 +151,16 @@ pub keeps-none : Report given.loadSettings loaded.machineSettings loaded.image g
 unfolding run loaded.image given.string given.events number low find fields layout first trailerOf entryOf entries demand entriesRefusal many segment fits touches byNumber onLoad onParameters latest walk next
 keeps-none r = let z = ap (λ (m : Machine). m .parameters .«target_name» .length) (r .finished refl .started refl) in omega arith
 
+-- A machine of version 2.1 that keeps the parameters in its record alone, as under 3.0.0, and lays no block.
+abbrev lays-no-block : Ends Session End ⊥
+lays-no-block =
+    loadEnds versioned.loadSettings (record { «reply_bytes» = 1; device = 0; processor = 0; version = v30; window = no-window }) loaded.image versioned.string
+
+pub lays-none : Report versioned.loadSettings versioned.machineSettings loaded.image versioned.string (replicate 64 7)
+    (run lays-no-block (load.freshWorld versioned.machineSettings (replicate 64 7)) versioned.events) → ⊥
+unfolding run laidOver loaded.image versioned.string versioned.events number low find fields layout first trailerOf entryOf entries demand entriesRefusal many segment fits touches byNumber onLoad onParameters latest walk next cell block
+lays-none r = let z = ap (λ (m : List ℕ). getD m 0 0) (r .finished refl .memory-is) in omega arith
+
 -- ---- a dump of 3 bytes from address 1 of the memory 7, 8, 9, at most 2 at a time, into the buffer 5, 5, 5
 abbrev memory : List ℕ
 memory = 7 ∷ 8 ∷ 9 ∷ []
@@ -162,7 +175,7 @@ ourDump = dumpEnds dumped.s dumped.ms
 abbrev misplaced : Host → Frame → Turn Host → Turn Host
 misplaced old f refuses = refuses
 misplaced old f (acts h out) =
-    acts (hostEnd (h .session) (pick (eqb (h .session .replies) (old .session .replies)) (h .buffer) (over (part f (fields f)) 0 (old .buffer)))) out
+    acts (hostEnd (h .session) (pick (eqb (h .session .replies) (old .session .replies)) (h .buffer) (over (part f (fields v30 f)) 0 (old .buffer)))) out
 
 abbrev fromStart : Ends Host End ⊥
 fromStart =

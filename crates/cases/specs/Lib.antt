@@ -3,4 +3,5 @@ pub mod LoadExample
 pub mod ParametersExample
 pub mod DumpExample
 pub mod WindowExample
+pub mod VersionExample
 pub mod Impostors

@@ -20,6 +20,7 @@ use Rattle.parameters.specs.Parameters.{latest}
 use Rattle.holds.specs.Holds.{Holds}
 use Rattle.machine_record.specs.Record.{started}
 use Rattle.machine_next.specs.Next.{byNumber, onLoad, onParameters}
+use Rattle.version.specs.Version.{v30}
 use Rattle.load_record.specs.declared.Settings.{Settings as LoadSettings}
 use Rattle.load_record.specs.declared.Session.{Session}
 use Rattle.load_checks.specs.Checks.{stringRefusal}
@@ -30,7 +31,7 @@ use Rattle.link_load.specs.Audit.{parameters-load}
 use Rattle.cases.specs.LoadExample.{image, machineSettings, accepted, bytes}
 
 abbrev pub loadSettings : LoadSettings
-loadSettings = record { «segment_size» = 2; repeats = 1; «with_parameters» = 1 }
+loadSettings = record { «segment_size» = 2; repeats = 1; «with_parameters» = 1; version = v30 }
 
 -- target name MILL, host address 03-04, target name AL
 unfoldable pub string : List ℕ
@@ -80,6 +81,6 @@ good : stringRefusal loadSettings string ≡ 0
 unfolding string first walk next
 good = refl
 
-pub worked-holds : Holds (after loadSettings machineSettings image string (replicate 8 0) events .machine .machine .parameters) string
+pub worked-holds : Holds v30 (after loadSettings machineSettings image string (replicate 8 0) events .machine .machine .parameters) string
 worked-holds =
     parameters-load loadSettings machineSettings image string (replicate 8 0) accepted bytes good refl events (ap (λ (w : World Session End). w .host .verdict) worked)

@@ -14,6 +14,7 @@ use Rattle.step.specs.Step.{first}
 use Rattle.directory.specs.Directory.{trailerOf, entryOf, entries, demand, entriesRefusal}
 use Rattle.image.specs.Image.{many, segment}
 use Rattle.parameters.specs.Parameters.{none}
+use Rattle.version.specs.Version.{v30}
 use Rattle.machine_record.specs.declared.Settings.{Settings as MachineSettings}
 use Rattle.machine_record.specs.Record.{loading}
 use Rattle.machine_next.specs.Next.{byNumber, onLoad}
@@ -25,7 +26,7 @@ use Rattle.cases.specs.LoadExample.{image, loadSettings, accepted, bytes
 
 -- a window of one byte at an address
 abbrev windowAt : ℕ → MachineSettings
-windowAt a = record { «reply_bytes» = 1; device = 0; processor = 0; window = record { start = a; length = 1 } }
+windowAt a = record { «reply_bytes» = 1; device = 0; processor = 0; version = v30; window = record { start = a; length = 1 } }
 
 abbrev pub machineSettings : MachineSettings
 machineSettings = windowAt 4

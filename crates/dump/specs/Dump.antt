@@ -38,7 +38,7 @@ abbrev pub onFrame : Settings → Session → List ℕ → List ℕ → Fields �
 onFrame s h frame buffer f = does s (react s h f) (filled (react s h f .takes) (part frame f) (h .filled) buffer)
 
 abbrev pub dumpFrame : Settings → Session → List ℕ → List ℕ → List ℕ → Outcome Session (List ℕ)
-dumpFrame s h frame buffer reply = frameCall (refusal s h (length buffer) (length reply)) frame h buffer reply (onFrame s h frame buffer)
+dumpFrame s h frame buffer reply = frameCall (s .version) (refusal s h (length buffer) (length reply)) frame h buffer reply (onFrame s h frame buffer)
 
 -- a step on a timer
 abbrev pub dumpTimer : Settings → Session → List ℕ → List ℕ → Outcome Session (List ℕ)

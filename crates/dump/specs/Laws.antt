@@ -89,10 +89,10 @@ module _ (s : Settings) (n : Next) (buffer reply : List ℕ) where
 
 -- a step on a frame that is not refused: what is done next, with the bytes taken, is what the call leaves
 pub stepped : (s : Settings) (h : Session) (frame buffer reply : List ℕ) (f : Fields) (n : Next) (filled′ : List ℕ) {session : Session} {answer : Written} {reply′ : List ℕ}
-    → refusal s h (length buffer) (length reply) ≡ 0 → f ≡ fields frame → f .refusal ≡ 0 → n ≡ react s h f
+    → refusal s h (length buffer) (length reply) ≡ 0 → f ≡ fields (s .version) frame → f .refusal ≡ 0 → n ≡ react s h f
     → filled′ ≡ filled (n .takes) (part frame f) (h .filled) buffer
     → Leaves (gives (does s n filled′) reply) session answer filled′ reply′
     → Leaves (dumpFrame s h frame buffer reply) session answer filled′ reply′
 stepped s h frame buffer reply f n filled′ z q e r o l =
     let done = rw (o, r, q) at l in
-    frame-accepted (refusal s h (length buffer) (length reply)) frame h buffer reply (onFrame s h frame buffer) z (rw q at e) (done .0, done .1, (rw (r, q) at o) ∙ done .2, done .3)
+    frame-accepted (s .version) (refusal s h (length buffer) (length reply)) frame h buffer reply (onFrame s h frame buffer) z (rw q at e) (done .0, done .1, (rw (r, q) at o) ∙ done .2, done .3)

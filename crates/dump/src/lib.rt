@@ -115,7 +115,7 @@ pub fn frame(
     if refusal != 0 {
         return refused(session, refusal);
     }
-    let f = reader::read(frame);
+    let f = reader::read(settings.version, frame);
     if f.refusal != 0 {
         return refused(session, f.refusal);
     }

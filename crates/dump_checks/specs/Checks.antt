@@ -4,15 +4,17 @@ use Prim.Native.Nat.{ℕ, _+_, _*_}
 use mathlib.Core.Bool.{Bool, true, not, _&&_, cond as pick}
 use mathlib.Core.List.{[], _∷_}
 use lib.Dec.{eqb, leb}
+use Rattle.version.specs.Version.{known}
 use Rattle.step.specs.Step.{unless, first}
 use Rattle.dump_record.specs.declared.Settings.{Settings}
 use Rattle.dump_record.specs.declared.Session.{Session}
 
--- C, R, and a range of at least a byte within the address space, into a buffer of just its length
+-- C, R, a range of at least a byte within the address space, into a buffer of just its length, and the version
 abbrev pub settled : Settings → ℕ → Bool
 settled s size =
     leb 1 (s .«request_bytes») && leb (s .«request_bytes») 1495 && leb (s .repeats) 255
     && leb 1 (s .length) && leb (s .address + s .length) 4294967296 && eqb size (s .length)
+    && known (s .version)
 
 -- a waiting record has every number 0
 abbrev pub blank : Session → Bool

@@ -8,6 +8,7 @@ use native.Mathlib.Nat.{mul-le-mul-left}
 use lib.Dec.{eqb, leb}
 use borrow.Author.Tests.{leb-true, eqb-true, eqb-false, not-true}
 use Rattle.octets.specs.TestLaws.{both}
+use Rattle.version.specs.Version.{known}
 use Rattle.step.specs.Step.{unless}
 use Rattle.step.specs.Laws.{met, none}
 use Rattle.dump_record.specs.declared.Settings.{Settings}
@@ -24,7 +25,7 @@ pub record Ranged (s : Settings) (size : ℕ) : Type 0 where
 
 pub ranged : (s : Settings) (size : ℕ) → settled s size ≡ true → Ranged s size
 ranged s size e =
-    let whole = both _ (eqb size (s .length)) e in
+    let whole = both _ (eqb size (s .length)) (both _ (known (s .version)) e .0) in
     let range = both _ (leb (s .address + s .length) 4294967296) (whole .0) in
     let least = both _ (leb 1 (s .length)) (range .0) in
     let repeats = both _ (leb (s .repeats) 255) (least .0) in

@@ -31,7 +31,10 @@ fn settled(s: Settings, size: usize) -> bool
     if 4294967296 < end {
         return false;
     }
-    size as u64 == s.length
+    if size as u64 != s.length {
+        return false;
+    }
+    version::known(s.version)
 }
 
 // A waiting record has every number 0.

@@ -2,13 +2,15 @@
 ghost use mathlib.Core.Path.{_≡_};
 ghost use Rattle.dump_record.specs.Record.{fresh, asked, reached, ignores, asks, completes};
 
-// Its settings: L bytes from address A, C, the most bytes asked for at a time, and R, the repeats allowed per frame.
+// Its settings: L bytes from address A; C, the most bytes asked for at a time; R, the repeats allowed per frame; and the
+// version.
 #[repr(C)]
 pub struct Settings {
     pub length: u64,
     pub address: u32,
     pub request_bytes: u32,
     pub repeats: u32,
+    pub version: u8,
 }
 
 // Its record: the bytes filled, the replies taken, the frames sent; the repeats of the frame on its way; whether it still

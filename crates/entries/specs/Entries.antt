@@ -4,7 +4,7 @@ use mathlib.Core.List.{List, [], _∷_}
 use Rattle.entries_next.specs.declared.Place.{Place}
 use Rattle.entries_next.specs.Next.{next}
 
--- the place after all the bytes
-unfoldable pub walk : Place → List ℕ → Place
-walk p [] = p
-walk p (b ∷ bs) = walk (next p b) bs
+-- the place after all the bytes, under a version
+unfoldable pub walk : ℕ → Place → List ℕ → Place
+walk version p [] = p
+walk version p (b ∷ bs) = walk version (next version p b) bs

@@ -12,15 +12,15 @@ abbrev pub Fields : ℕ → ℕ → List ℕ → Type 0
 Fields k before [] = Unit {0}
 Fields k before (b ∷ bs) = (field k before b ≡ true) × Fields (k + 1) b bs
 
--- Entries in a row, each a type, a length and a value. Type and length are listed; a host time's value is its ten fields.
-pub data Entries : List ℕ → Type 0 where
-  none : Entries []
+-- Entries of a version in a row, each a type, a length and a value. Type and length are listed; a host time's value is its ten fields.
+pub data Entries (version : ℕ) : List ℕ → Type 0 where
+  none : Entries version []
   entry :
       (kind : ℕ) (value rest : List ℕ)
-      → listed kind (length value) ≡ true
+      → listed version kind (length value) ≡ true
       → (kind ≡ 5 → Fields 0 0 value)
-      → Entries rest
-      → Entries (kind ∷ length value ∷ (value ++ rest))
+      → Entries version rest
+      → Entries version (kind ∷ length value ∷ (value ++ rest))
 
 -- A string that is so up to the end mark, with four bytes after the mark.
 pub record Marked (So : List ℕ → Type 0) (xs : List ℕ) : Type 0 where

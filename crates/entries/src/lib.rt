@@ -1,7 +1,7 @@
 // Code 20: the entries, the end mark and the transfer address, over a whole string.
 ghost use mathlib.Core.Path.{_≡_};
 ghost use mathlib.Core.Bool.{true};
-ghost use Prim.Native.Nat.{_+_, _<_, _≤_};
+ghost use Prim.Native.Nat.{ℕ, _+_, _<_, _≤_};
 ghost use lib.ListN.{length, take, drop};
 ghost use Rattle.entries.specs.Grammar.{Fields};
 ghost use Rattle.entries.specs.Entries.{walk};
@@ -27,9 +27,9 @@ fn time(s: &[u8], at: usize) -> bool
 }
 
 // The place behind the entry at `at`; 0 if no whole entry of the list stands there.
-fn behind(s: &[u8], at: usize) -> usize
+fn behind(version: u8, s: &[u8], at: usize) -> usize
     requires { ⌜ at < length (now s) ⌝ }
-    ensures { λ r. ⌜ ((r ≡ 0 → ⊥) → (at < r) × (walk Place.Kind (drop r (now (s .entry))) ≡ walk Place.Kind (drop at (now (s .entry))))) ⌝ }
+    ensures { λ r. ⌜ ((r ≡ 0 → ⊥) → (at < r) × (walk version Place.Kind (drop r (now (s .entry))) ≡ walk version Place.Kind (drop at (now (s .entry))))) ⌝ }
 {
     let value = at + 2;
     if s.len() < value {
@@ -41,7 +41,7 @@ fn behind(s: &[u8], at: usize) -> usize
     if s.len() < end {
         return 0;
     }
-    if !entries_next::listed(kind, n) {
+    if !entries_next::listed(version, kind, n) {
         return 0;
     }
     if kind != 5 {
@@ -53,7 +53,7 @@ fn behind(s: &[u8], at: usize) -> usize
 // The place after the bytes from `at` on, which stand behind the end mark.
 fn transfer(s: &[u8], at: usize) -> Place
     requires { ⌜ at ≤ length (now s) ⌝ }
-    ensures { λ r. ⌜ r ≡ walk (Place.Transfer 4) (drop at (now (s .entry))) ⌝ }
+    ensures { λ r. ⌜ ((version : ℕ) → r ≡ walk version (Place.Transfer 4) (drop at (now (s .entry)))) ⌝ }
 {
     let n = s.len() - at;
     if n <= 4 {
@@ -64,13 +64,13 @@ fn transfer(s: &[u8], at: usize) -> Place
 }
 
 // The place after the bytes from `from` on, found byte by byte, up to the first that is outside the list.
-fn rest(s: &[u8], from: usize) -> Place
-    ensures { λ r. ⌜ r ≡ walk Place.Kind (drop from (now (s .entry))) ⌝ }
+fn rest(version: u8, s: &[u8], from: usize) -> Place
+    ensures { λ r. ⌜ r ≡ walk version Place.Kind (drop from (now (s .entry))) ⌝ }
 {
     let mut p = Place::Kind;
     let mut i = from;
     while i < s.len() {
-        p = entries_next::next(p, s[i]);
+        p = entries_next::next(version, p, s[i]);
         i += 1;
         if let Place::Outside = p {
             return Place::Outside;
@@ -81,17 +81,17 @@ fn rest(s: &[u8], from: usize) -> Place
 
 // The place after the bytes from `from` on, an entry's type first; past the end there are none.
 // Whole entries are passed over one at a time; bytes that are none of them end the walk.
-pub fn walk(s: &[u8], from: usize) -> Place
-    ensures { λ r. ⌜ r ≡ walk Place.Kind (drop from (now (s .entry))) ⌝ }
+pub fn walk(version: u8, s: &[u8], from: usize) -> Place
+    ensures { λ r. ⌜ r ≡ walk version Place.Kind (drop from (now (s .entry))) ⌝ }
 {
     let mut i = from;
     while i < s.len() {
         if s[i] == 0 {
             return transfer(s, i + 1);
         }
-        let end = behind(s, i);
+        let end = behind(version, s, i);
         if end == 0 {
-            return rest(s, i);
+            return rest(version, s, i);
         }
         i = end;
     }

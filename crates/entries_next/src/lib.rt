@@ -1,6 +1,7 @@
 // Code 20's entries, end mark and transfer address: what a byte is, after the bytes before it (PROTOCOL 2, 'Messages').
 ghost use mathlib.Core.Path.{_≡_};
-ghost use Rattle.entries_next.specs.Next.{listed, more, next};
+ghost use Prim.Native.Nat.{ℕ};
+ghost use Rattle.entries_next.specs.Next.{longestName, longestAddress, lastKind, listed, more, next};
 
 // What the next byte is, or how the walk ended.
 pub enum Place {
@@ -20,15 +21,41 @@ pub enum Place {
     Excess,
 }
 
-// An entry of this type may have this length.
-pub fn listed(kind: u8, n: u8) -> bool
-    ensures { λ r. ⌜ r ≡ listed kind n ⌝ }
+// The longest name of a version.
+fn longest_name(version: u8) -> u8
+    ensures { λ r. ⌜ r ≡ longestName version ⌝ }
 {
+    if version::older(version) { 6 } else { 16 }
+}
+
+// The longest address of a version.
+fn longest_address(version: u8) -> u8
+    ensures { λ r. ⌜ r ≡ longestAddress version ⌝ }
+{
+    if version::older(version) { 2 } else { 6 }
+}
+
+// The last entry type of a version.
+fn last_kind(version: u8) -> u8
+    ensures { λ r. ⌜ r ≡ lastKind version ⌝ }
+{
+    if version::older(version) { 4 } else { 5 }
+}
+
+// An entry of this type may have this length.
+pub fn listed(version: u8, kind: u8, n: u8) -> bool
+    ensures { λ r. ⌜ r ≡ listed version kind n ⌝ }
+{
+    if last_kind(version) < kind {
+        return false;
+    }
+    let name = longest_name(version);
+    let address = longest_address(version);
     match kind {
-        1 => n <= 16, // target name
-        2 => n <= 6, // target address
-        3 => n <= 16, // host name
-        4 => n <= 6, // host address
+        1 => n <= name, // target name
+        2 => n <= address, // target address
+        3 => n <= name, // host name
+        4 => n <= address, // host address
         5 => n == 10, // host time
         _ => false,
     }
@@ -41,23 +68,23 @@ fn more(n: u8) -> Place
     if n == 0 { Place::Kind } else { Place::Value(n) }
 }
 
-fn after_kind(b: u8) -> Place
-    ensures { λ r. ⌜ r ≡ next Place.Kind b ⌝ }
+fn after_kind(version: u8, b: u8) -> Place
+    ensures { λ r. ⌜ r ≡ next version Place.Kind b ⌝ }
 {
     if b == 0 {
         return Place::Transfer(4);
     }
-    if b <= 5 {
+    if b <= last_kind(version) {
         Place::Size(b)
     } else {
         Place::Outside
     }
 }
 
-fn after_size(kind: u8, n: u8) -> Place
-    ensures { λ r. ⌜ r ≡ next (Place.Size kind) n ⌝ }
+fn after_size(version: u8, kind: u8, n: u8) -> Place
+    ensures { λ r. ⌜ r ≡ next version (Place.Size kind) n ⌝ }
 {
-    if !listed(kind, n) {
+    if !listed(version, kind, n) {
         return Place::Outside;
     }
     if kind == 5 {
@@ -68,7 +95,7 @@ fn after_size(kind: u8, n: u8) -> Place
 }
 
 fn after_time(k: u8, before: u8, b: u8) -> Place
-    ensures { λ r. ⌜ r ≡ next (Place.Time k before) b ⌝ }
+    ensures { λ r. ⌜ ((version : ℕ) → r ≡ next version (Place.Time k before) b) ⌝ }
 {
     if !host_time::field(k, before, b) {
         return Place::Outside;
@@ -81,12 +108,12 @@ fn after_time(k: u8, before: u8, b: u8) -> Place
 }
 
 // The place after a byte.
-pub fn next(p: Place, b: u8) -> Place
-    ensures { λ r. ⌜ r ≡ next p b ⌝ }
+pub fn next(version: u8, p: Place, b: u8) -> Place
+    ensures { λ r. ⌜ r ≡ next version p b ⌝ }
 {
     match p {
-        Place::Kind => after_kind(b),
-        Place::Size(kind) => after_size(kind, b),
+        Place::Kind => after_kind(version, b),
+        Place::Size(kind) => after_size(version, kind, b),
         Place::Value(n) => if 1 < n {
             Place::Value(n - 1)
         } else {

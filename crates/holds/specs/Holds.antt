@@ -16,13 +16,13 @@ pub data Absent (kind : ℕ) : List ℕ → Type 0 where
   none : Absent kind []
   entry : (other : ℕ) (value rest : List ℕ) → (other ≡ kind → ⊥) → Absent kind rest → Absent kind (other ∷ length value ∷ (value ++ rest))
 
--- Entries whose last one of this type has this value.
-pub record Last (kind : ℕ) (value : List ℕ) (string : List ℕ) : Type 0 where
+-- Entries of a version whose last one of this type has this value.
+pub record Last (version kind : ℕ) (value : List ℕ) (string : List ℕ) : Type 0 where
   pub before : List ℕ
   pub behind : List ℕ
   pub whole : string ≡ before ++ (kind ∷ length value ∷ (value ++ behind))
-  pub entries : Entries before
-  pub fits : listed kind (length value) ≡ true
+  pub entries : Entries version before
+  pub fits : listed version kind (length value) ≡ true
   pub absent : Absent kind behind
 
 -- a kept value is these bytes: their length, the bytes, and zeros behind them
@@ -40,9 +40,9 @@ of kind p =
     (pick (eqb kind 4) (p .«host_address»)
     (p .«host_time»))))
 
--- The record holds what the string says: of each type the value of the string's last entry, and nothing of a type that is absent; and each
+-- The record holds what the string, entries of a version, says: of each type the value of the string's last entry, and nothing of a type that is absent; and each
 -- type is absent, or has a last entry.
-pub record Holds (p : Parameters) (string : List ℕ) : Type 0 where
-  pub last : (kind : ℕ) → 1 ≤ kind → kind ≤ 5 → (value : List ℕ) → Last kind value string → Is (of kind p) value
+pub record Holds (version : ℕ) (p : Parameters) (string : List ℕ) : Type 0 where
+  pub last : (kind : ℕ) → 1 ≤ kind → kind ≤ 5 → (value : List ℕ) → Last version kind value string → Is (of kind p) value
   pub absent : (kind : ℕ) → 1 ≤ kind → kind ≤ 5 → Absent kind string → Is (of kind p) []
-  pub either : (kind : ℕ) → Absent kind string ⊎ ((value : List ℕ) × Last kind value string)
+  pub either : (kind : ℕ) → Absent kind string ⊎ ((value : List ℕ) × Last version kind value string)

@@ -11,14 +11,15 @@ use Rattle.script.specs.declared.Script.{Script}
 use Rattle.script.specs.Script.{checked}
 use Rattle.job.specs.declared.Setup.{Setup}
 use Rattle.job.specs.declared.Job.{Job}
+use Rattle.version.specs.Version.{v30}
 use Rattle.window.specs.Window.{none}
 
 -- the settings of both ends: there is no parameter string and no ROM window, device and processor are 0, and D plays no part in a load
 abbrev pub setup : Script → Setup
 setup t =
     record {
-      host = record { «segment_size» = t .«segment_size»; repeats = t .repeats; «with_parameters» = 0 };
-      machine = record { «reply_bytes» = 1495; device = 0; processor = 0; window = none };
+      host = record { «segment_size» = t .«segment_size»; repeats = t .repeats; «with_parameters» = 0; version = v30 };
+      machine = record { «reply_bytes» = 1495; device = 0; processor = 0; version = v30; window = none };
     }
 
 -- the second line's bytes, laid into a space

@@ -50,11 +50,13 @@ fn prepare(script: Script) -> Setup
             segment_size: script.segment_size,
             repeats: script.repeats,
             with_parameters: 0,
+            version: version::V3_0,
         },
         machine: machine_record::Settings {
             reply_bytes: 1495,
             device: 0,
             processor: 0,
+            version: version::V3_0,
             window: window::none(),
         },
     }

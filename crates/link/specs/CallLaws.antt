@@ -53,8 +53,8 @@ module _ {H B E : Type 0} (end : H → B → E) where
       let z : _≡_ {A = ℕ} 0 1 = cc in omega arith
 
   -- nor is one on a frame to which none applies and which is accepted
-  pub frame-unrefused : (n : ℕ) (frame : Frame) (h : H) (b : B) (reply : List ℕ) (react : Fields → Act H B) → n ≡ 0 → fields frame .refusal ≡ 0
-      → turned end (frameCall n frame h b reply react) ≡ refuses → ⊥
+  pub frame-unrefused : (version n : ℕ) (frame : Frame) (h : H) (b : B) (reply : List ℕ) (react : Fields → Act H B) → n ≡ 0 → fields version frame .refusal ≡ 0
+      → turned end (frameCall version n frame h b reply react) ≡ refuses → ⊥
   unfolding first
-  frame-unrefused n frame h b reply react e r =
-      unrefused (first (n ∷ fields frame .refusal ∷ [])) h b reply (react (fields frame)) (rw (e, r))
+  frame-unrefused version n frame h b reply react e r =
+      unrefused (first (n ∷ fields version frame .refusal ∷ [])) h b reply (react (fields version frame)) (rw (e, r))

@@ -1,13 +1,17 @@
 -- What the calls of the machine come to on the link.
 use Prim.Native.Nat.{ℕ, _≤_}
-use mathlib.Core.Path.{_≡_, _∙_}
+use mathlib.Core.Path.{_≡_, refl, subst, _∙_}
 use mathlib.Core.List.{List, [], _∷_}
+use mathlib.Core.Logic.{inl, inr}
 use lib.ListN.{length}
-use borrow.Author.Tests.{le-leb}
+use lib.Dec.{eqb}
+use borrow.Author.Tests.{le-leb, eqb-true}
 use Rattle.buffer.specs.declared.Written.{Written}
+use Rattle.octets.specs.TestLaws.{by-cases}
 use Rattle.message.specs.declared.Fields.{Fields}
 use Rattle.message.specs.Read.{fields}
-use Rattle.step.specs.Step.{Act, first, Leaves}
+use Rattle.step.specs.Step.{Act, Outcome, first, gives, Leaves}
+use Rattle.step.specs.Laws.{none}
 use Rattle.machine_record.specs.declared.Machine.{Machine}
 use Rattle.machine_record.specs.declared.Settings.{Settings}
 use Rattle.machine_checks.specs.Checks.{refusal}
@@ -28,15 +32,25 @@ abbrev pub Becomes : Turn End → MachineAct → Type 0
 Becomes = call.Becomes machineEnd
 
 module _ (ms : Settings) (m : Machine) (memory b : List ℕ) where
-  pub on-frame : (f : Frame) → Becomes (turned machineEnd (machineFrame ms m f memory b)) (react ms m (fields f) f memory)
-  on-frame f = called machineEnd (first (refusal ms m (length memory) (length b) ∷ fields f .refusal ∷ [])) m memory b (react ms m (fields f) f memory)
+  pub on-frame : (f : Frame) → Becomes (turned machineEnd (machineFrame ms m f memory b)) (react ms m (fields (ms .version) f) f memory)
+  on-frame f = called machineEnd (first (refusal ms m (length memory) (length b) ∷ fields (ms .version) f .refusal ∷ [])) m memory b (react ms m (fields (ms .version) f) f memory)
+
+  -- a call comes to what the machine does with the frame if it can be read; else it is refused
+  pub on-read : (f : Frame) (a : MachineAct) → (fields (ms .version) f .refusal ≡ 0 → react ms m (fields (ms .version) f) f memory ≡ a)
+      → Becomes (turned machineEnd (machineFrame ms m f memory b)) a
+  on-read f a does =
+      let act = react ms m (fields (ms .version) f) f memory in
+      let n = first (refusal ms m (length memory) (length b) ∷ fields (ms .version) f .refusal ∷ []) in
+      by-cases (λ (o : Outcome Machine (List ℕ)). Becomes (turned machineEnd o) a) (eqb n 0)
+      (λ e. subst (Becomes (turned machineEnd (gives act b))) (does (none _ _ (none _ _ (eqb-true n 0 e) .1) .0)) (inr (call.told-as machineEnd 0 m memory b act refl)))
+      (λ e. inl (rw e))
 
   pub on-timer : Becomes (turned machineEnd (machineTimer ms m memory b)) (onTimer ms m memory)
   on-timer = called machineEnd (refusal ms m (length memory) (length b)) m memory b (onTimer ms m memory)
 
-  pub frame-unrefused : (f : Frame) → refusal ms m (length memory) (length b) ≡ 0 → fields f .refusal ≡ 0 → turned machineEnd (machineFrame ms m f memory b) ≡ refuses → ⊥
+  pub frame-unrefused : (f : Frame) → refusal ms m (length memory) (length b) ≡ 0 → fields (ms .version) f .refusal ≡ 0 → turned machineEnd (machineFrame ms m f memory b) ≡ refuses → ⊥
   frame-unrefused f r e =
-      call.frame-unrefused machineEnd (refusal ms m (length memory) (length b)) f m memory b (λ (x : Fields). react ms m x f memory) r e
+      call.frame-unrefused machineEnd (ms .version) (refusal ms m (length memory) (length b)) f m memory b (λ (x : Fields). react ms m x f memory) r e
 
   pub timer-unrefused : refusal ms m (length memory) (length b) ≡ 0 → turned machineEnd (machineTimer ms m memory b) ≡ refuses → ⊥
   timer-unrefused r = call.unrefused machineEnd (refusal ms m (length memory) (length b)) m memory b (onTimer ms m memory) r

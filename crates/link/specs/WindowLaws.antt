@@ -6,7 +6,7 @@ use lib.ListN.{length}
 use Rattle.memory.specs.Memory.{laid, WindowKept}
 use Rattle.memory.specs.Laws.{fits-inside, length-laid, laid-outside}
 use Rattle.message.specs.declared.Fields.{Fields}
-use Rattle.message.specs.Read.{fields, part}
+use Rattle.message.specs.Read.{fields}
 use Rattle.step.specs.Step.{Act}
 use Rattle.machine_record.specs.declared.Machine.{Machine}
 use Rattle.machine_record.specs.declared.Settings.{Settings}
@@ -27,10 +27,9 @@ module _ (ms : Settings) (m : Machine) (f : Fields) (frame memory : List ℕ) wh
       go : (act : Act Machine (List ℕ)) → Acted ms m f frame memory act → WindowKept (ms .window) memory (act .lent)
       go act ignored = λ a x. refl
       go act (answered m′ number error l) = λ a x. refl
-      go act (loaded m′ number l e) = λ a x.
-          let bytes = part frame f in
-          same-byte (laid bytes (f .address) memory) memory a (length-laid bytes (f .address) memory (fits-inside (ms .window) (f .address) (length bytes) (length memory) e))
-          (laid-outside (ms .window) bytes (f .address) memory e a x)
+      go act (loaded m′ number bytes address l e) = λ a x.
+          same-byte (laid bytes address memory) memory a (length-laid bytes address memory (fits-inside (ms .window) address (length bytes) (length memory) e))
+          (laid-outside (ms .window) bytes address memory e a x)
       go act (dumped l) = λ a x. refl
       go act (completed e) = λ a x. refl
       go act (looped c e) = λ a x. refl
@@ -50,7 +49,7 @@ module _ {H : Type 0} (ms : Settings) (old : List ℕ) where
       record {
         keptM = λ w f q b e k.
             came (λ (t : Turn End). Kept (machineTurn w (f ∷ q) t)) _ _ _ (on-frame ms (w .machine .machine) (w .machine .memory) b f) k
-            (λ a x. react-keeps ms (w .machine .machine) (fields f) f (w .machine .memory) a x ∙ k a x);
+            (λ a x. react-keeps ms (w .machine .machine) (fields (ms .version) f) f (w .machine .memory) a x ∙ k a x);
         lostM = λ w q l k. k;
         keptH = λ w f q b e k. on-host w (f ∷ q) (frame (w .host) f b) k;
         lostH = λ w q l k. k;

@@ -136,11 +136,11 @@ module _
     unrefused =
         record {
           hostFrame = λ f q b e l.
-              call.frame-unrefused hostEnd _ f (w .host .session) (w .host .buffer) b (dump.onFrame s (w .host .session) f (w .host .buffer)) (host-accepted b l)
-              (read (Tells memory) (tells-read memory) f (subst (Each (Carries (Tells memory))) e (k .0 .toHost) .0));
+              call.frame-unrefused hostEnd (s .version) _ f (w .host .session) (w .host .buffer) b (dump.onFrame s (w .host .session) f (w .host .buffer)) (host-accepted b l)
+              (read (s .version) (Tells memory) (tells-read (s .version) memory) f (subst (Each (Carries (Tells memory))) e (k .0 .toHost) .0));
           hostTimer = λ b l.
               call.unrefused hostEnd _ (w .host .session) (w .host .buffer) b (dump.does s (onTimer s (w .host .session)) (w .host .buffer)) (host-accepted b l);
           machineFrame = λ f q b e l. frame-unrefused ms (w .machine .machine) (w .machine .memory) b f (machine-accepted b l)
-              (read Asks asks-read f (subst (Each (Carries Asks)) e (k .0 .toMachine) .0));
+              (read (ms .version) Asks (asks-read (ms .version)) f (subst (Each (Carries Asks)) e (k .0 .toMachine) .0));
           machineTimer = λ b l. timer-unrefused ms (w .machine .machine) (w .machine .memory) b (machine-accepted b l);
         }

@@ -41,9 +41,9 @@ pub record Now (h : Host) (w f n k v t : ℕ) (buffer : List ℕ) : Type 0 where
 abbrev pub Sending : Session → Type 0
 Sending h = (h .waiting ≡ 0) × (h .verdict ≡ 0)
 
--- a frame of bytes from this address on
-abbrev pub Data : Frame → ℕ → List ℕ → Type 0
-Data f address bytes = (fields f .code ≡ 14) × (fields f .address ≡ address) × (part f (fields f) ≡ bytes)
+-- a frame, read under a version, of bytes from this address on
+abbrev pub Data : ℕ → Frame → ℕ → List ℕ → Type 0
+Data version f address bytes = (fields version f .code ≡ 14) × (fields version f .address ≡ address) × (part f (fields version f) ≡ bytes)
 
 module _ (s : Settings) where
   -- what is asked for once so much is filled
@@ -55,7 +55,7 @@ module _ (s : Settings) where
 
   -- a reply to what was asked for: its bytes are the next ones of the range
   abbrev pub Reply : Session → Frame → List ℕ → Type 0
-  Reply h f bytes = Data f (s .address + h .filled) bytes × (1 ≤ length bytes) × (length bytes ≤ missing (h .filled))
+  Reply h f bytes = Data (s .version) f (s .address + h .filled) bytes × (1 ≤ length bytes) × (length bytes ≤ missing (h .filled))
 
   module _ (h : Host) where
     abbrev pub Same : Host → Type 0
@@ -86,8 +86,8 @@ module _ (s : Settings) where
           → Now x 0 (h .session .filled) (h .session .replies) (h .session .repeats) 3 (h .session .sent + 1) (h .buffer)
           → Timed (acts x (layout dumpComplete ∷ []))
 
-length-part : (f : Frame) → length (part f (fields f)) ≡ fields f .«data_length»
-length-part f = simp (length-take, length-drop) (omega (arith, fields-inside f))
+length-part : (version : ℕ) (f : Frame) → length (part f (fields version f)) ≡ fields version f .«data_length»
+length-part version f = simp (length-take, length-drop) (omega (arith, fields-inside version f))
 
 module _ (s : Settings) (h : Host) where
   abbrev r : Session
@@ -104,7 +104,7 @@ module _ (s : Settings) (h : Host) where
 
   module _ (f : Frame) where
     abbrev d : List ℕ
-    d = part f (fields f)
+    d = part f (fields (s .version) f)
 
     abbrev OnFrame : Next → Type 0
     OnFrame n = Heard s h f (does n (dump.filled (n .takes) d (r .filled) (h .buffer)))
@@ -116,31 +116,31 @@ module _ (s : Settings) (h : Host) where
     on-offer v = by-cases OnFrame (eqb (r .waiting) 1) (λ w. begins _ (eqb-true _ _ w) v (now _ refl v (add-zero _) refl)) (λ _. same)
 
     -- with the length of the part in the place of the number of its bytes
-    on-data : fields f .code ≡ 14 → r .verdict ≡ 0 → (n : ℕ) → length d ≡ n → OnFrame (next.onData s r (fields f .address) n)
-    on-data c v n e = subst (λ (k : ℕ). OnFrame (next.onData s r (fields f .address) k)) e (go (fields f .address) refl)
+    on-data : fields (s .version) f .code ≡ 14 → r .verdict ≡ 0 → (n : ℕ) → length d ≡ n → OnFrame (next.onData s r (fields (s .version) f .address) n)
+    on-data c v n e = subst (λ (k : ℕ). OnFrame (next.onData s r (fields (s .version) f .address) k)) e (go (fields (s .version) f .address) refl)
       where
-        go : (a : ℕ) → fields f .address ≡ a → OnFrame (next.onData s r a (length d))
+        go : (a : ℕ) → fields (s .version) f .address ≡ a → OnFrame (next.onData s r a (length d))
         go a q =
             by-cases OnFrame (eqb (r .waiting) 0 && eqb a (dumpRecord.place s r) && leb 1 (length d) && leb (length d) (dumpRecord.asked s r)) (λ t.
             let few = both (eqb (r .waiting) 0 && eqb a (dumpRecord.place s r) && leb 1 (length d)) (leb (length d) (dumpRecord.asked s r)) t in
             let some = both (eqb (r .waiting) 0 && eqb a (dumpRecord.place s r)) (leb 1 (length d)) (few .0) in
             let there = both (eqb (r .waiting) 0) (eqb a (dumpRecord.place s r)) (some .0) in
             let w : Sending r = (eqb-true _ _ (there .0), v) in
-            let at : fields f .address ≡ s .address + r .filled = omega (arith, eqb-true a (dumpRecord.place s r) (there .1)) in
+            let at : fields (s .version) f .address ≡ s .address + r .filled = omega (arith, eqb-true a (dumpRecord.place s r) (there .1)) in
             let reply : Reply s r f d = ((c, at, refl), leb-true _ _ (some .1), leb-true _ _ (few .1)) in
             by-cases OnFrame (eqb (r .filled + length d) (s .length)) (λ l. finishes _ d w reply (eqb-true _ _ l) (now _ refl refl refl refl))
             (λ l. asks _ d w reply (eqb-false _ _ l) (now _ refl v refl refl))) (λ _. same)
 
-    on-fields : OnFrame (next.react s r (fields f))
+    on-fields : OnFrame (next.react s r (fields (s .version) f))
     on-fields =
         by-cases OnFrame (eqb (r .verdict) 0) (λ v.
-        by-cases OnFrame (eqb (fields f .code) 12) (λ _. on-offer (eqb-true _ _ v)) (λ _.
-        by-cases OnFrame (eqb (fields f .code) 14) (λ c. on-data (eqb-true _ _ c) (eqb-true _ _ v) (fields f .«data_length») (length-part f)) (λ _. same))) (λ _. same)
+        by-cases OnFrame (eqb (fields (s .version) f .code) 12) (λ _. on-offer (eqb-true _ _ v)) (λ _.
+        by-cases OnFrame (eqb (fields (s .version) f .code) 14) (λ c. on-data (eqb-true _ _ c) (eqb-true _ _ v) (fields (s .version) f .«data_length») (length-part (s .version) f)) (λ _. same))) (λ _. same)
 
     pub heard : (b : List ℕ) → Heard s h f (turned hostEnd (dump.dumpFrame s r f (h .buffer) b))
     heard b =
         came (Heard s h f) _ _ _
-        (called hostEnd (first (dumpChecks.refusal s r (length (h .buffer)) (length b) ∷ fields f .refusal ∷ [])) r (h .buffer) b (dump.onFrame s r f (h .buffer) (fields f)))
+        (called hostEnd (first (dumpChecks.refusal s r (length (h .buffer)) (length b) ∷ fields (s .version) f .refusal ∷ [])) r (h .buffer) b (dump.onFrame s r f (h .buffer) (fields (s .version) f)))
         refused on-fields
 
   abbrev OnTimer : Next → Type 0

@@ -59,35 +59,37 @@ unfolding layout low
 short a d k = omega arith
 
 -- an offer is no data; what a frame of data says
-no-data : (ms : MachineSettings) (size : ℕ) → size < 256 ^ 4 → fields (layout (asksDump ms size)) .code ≡ 14 → ⊥
+no-data : (version : ℕ) (ms : MachineSettings) (size : ℕ) → size < 256 ^ 4 → fields version (layout (asksDump ms size)) .code ≡ 14 → ⊥
 unfolding layout low
-no-data ms size h e =
-    let code = ap (λ (f : Fields). f .code) (request-dump-service-fields (ms .device) 1 size 0 [] h (omega arith)) in omega arith
+no-data version ms size h e =
+    let code = ap (λ (f : Fields). f .code) (request-dump-service-fields version (ms .device) 1 size 0 [] h (omega arith)) in omega arith
 
-says-data : (a : ℕ) (d : List ℕ) → a < 256 ^ 4 → length d ≤ 1495 → (fields (layout (dumpData a d)) .address ≡ a) × (partOf (layout (dumpData a d)) (fields (layout (dumpData a d))) ≡ d)
-says-data a d h k = (rw (dump-data-fields a d h (short a d k)), rw (dump-data-fields a d h (short a d k)) (dump-data-part a d))
+says-data : (version a : ℕ) (d : List ℕ) → a < 256 ^ 4 → length d ≤ 1495
+    → (fields version (layout (dumpData a d)) .address ≡ a) × (partOf (layout (dumpData a d)) (fields version (layout (dumpData a d))) ≡ d)
+says-data version a d h k = (rw (dump-data-fields version a d h (short a d k)), rw (dump-data-fields version a d h (short a d k)) (dump-data-part a d))
 
 -- so bytes that reach the host are memory's
-told : (memory : List ℕ) (m : Message) (a : ℕ) (d : List ℕ) → Tells memory m → Data (layout m) a d → d ≡ bytesFrom memory a (length d)
-told memory m a d (offer ms size h) q = absurd (no-data ms size h (q .0))
-told memory m a d (bytes {a = x} {d = y} h k v) q =
-    let z = says-data x y h k in
+told : (version : ℕ) (memory : List ℕ) (m : Message) (a : ℕ) (d : List ℕ) → Tells memory m → Data version (layout m) a d → d ≡ bytesFrom memory a (length d)
+told version memory m a d (offer ms size h) q = absurd (no-data version ms size h (q .0))
+told version memory m a d (bytes {a = x} {d = y} h k v) q =
+    let z = says-data version x y h k in
     let same : y ≡ d = sym (z .1) ∙ q .2 in
     let at : x ≡ a = sym (z .0) ∙ q .1 in
     rw (same, at) at v
 
--- every such frame is read
-pub asks-read : (m : Message) → Asks m → fields (layout m) .refusal ≡ 0
-asks-read m (part {a} {n} k l) = rw (request-dump-fields a n k l)
-asks-read m complete = rw dump-complete-fields
+-- every such frame is read, under any version
+pub asks-read : (version : ℕ) (m : Message) → Asks m → fields version (layout m) .refusal ≡ 0
+asks-read version m (part {a} {n} k l) = rw (request-dump-fields version a n k l)
+asks-read version m complete = rw (dump-complete-fields version)
 
-pub tells-read : (memory : List ℕ) (m : Message) → Tells memory m → fields (layout m) .refusal ≡ 0
+pub tells-read : (version : ℕ) (memory : List ℕ) (m : Message) → Tells memory m → fields version (layout m) .refusal ≡ 0
 unfolding layout low
-tells-read memory m (offer ms size h) = rw (request-dump-service-fields (ms .device) 1 size 0 [] h (omega arith))
-tells-read memory m (bytes {a} {d} h k v) = rw (dump-data-fields a d h (short a d k))
+tells-read version memory m (offer ms size h) = rw (request-dump-service-fields version (ms .device) 1 size 0 [] h (omega arith))
+tells-read version memory m (bytes {a} {d} h k v) = rw (dump-data-fields version a d h (short a d k))
 
-pub read : (P : Message → Type 0) → ((m : Message) → P m → fields (layout m) .refusal ≡ 0) → (f : Frame) → Carries P f → fields f .refusal ≡ 0
-read P reads f c = subst (λ (x : Frame). fields x .refusal ≡ 0) (sym (c .2)) (reads (c .0) (c .1))
+pub read : (version : ℕ) (P : Message → Type 0) → ((m : Message) → P m → fields version (layout m) .refusal ≡ 0) → (f : Frame) → Carries P f
+    → fields version f .refusal ≡ 0
+read version P reads f c = subst (λ (x : Frame). fields version x .refusal ≡ 0) (sym (c .2)) (reads (c .0) (c .1))
 
 -- ---- the settings
 -- What is used of accepted settings.
@@ -134,7 +136,7 @@ module _ (s : DumpSettings) (ms : MachineSettings) (memory buffer : List ℕ) (g
         record {
           good = k;
           held = n .buffer-is ∙ ap (over d (h .session .filled)) (i .held)
-              ∙ laid-next memory (s .address) (h .session .filled) d buffer (told memory (c .0) (s .address + h .session .filled) d (c .1) (subst (λ (y : Frame). Data y (s .address + h .session .filled) d) (c .2) (a .0))) ∙ ap filledTo (sym (n .filled));
+              ∙ laid-next memory (s .address) (h .session .filled) d buffer (told (s .version) memory (c .0) (s .address + h .session .filled) d (c .1) (subst (λ (y : Frame). Data (s .version) y (s .address + h .session .filled) d) (c .2) (a .0))) ∙ ap filledTo (sym (n .filled));
         }
 
     on-heard : (f : Frame) (t : Turn Host) → Carries (Tells memory) f → Heard s h f t → Kept s (g .some) h t → HostTurn t
@@ -168,15 +170,15 @@ module _ (s : DumpSettings) (ms : MachineSettings) (memory buffer : List ℕ) (g
   comes t a c d = came EndTurn t (machineEnd (a .end) (a .lent)) (queued (a .sending)) c tt d
 
   module _ (e : End) (i : EndHolds e) where
-    on-request : (m : Message) → Asks m → Does (react ms (e .machine) (fields (layout m)) (layout m) (e .memory))
+    on-request : (m : Message) → Asks m → Does (react ms (e .machine) (fields (ms .version) (layout m)) (layout m) (e .memory))
     on-request m (part {a} {n} k l) =
         let most : ℕ = min n (ms .«reply_bytes») in
         let size : length (bytesFrom (e .memory) a most) ≡ most = length-bytesFrom (e .memory) a most in
-        rw (request-dump-fields a n k l)
+        rw (request-dump-fields (ms .version) a n k l)
         (by-cases Does (machine.is 0 (e .machine) || machine.is 1 (e .machine))
         (λ _. (i, ((dumpData a (bytesFrom (e .memory) a most), bytes k (omega arith) (rw (size, i .held)), refl), tt))) (λ _. (i, tt)))
     on-request m complete =
-        rw dump-complete-fields
+        rw (dump-complete-fields (ms .version))
         (by-cases Does (machine.is 1 (e .machine)) (λ _. (record { state = omega arith; held = i .held }, tt)) (λ _. (i, tt)))
 
     on-tick : Does (onTimer ms (e .machine) (e .memory))
@@ -198,8 +200,8 @@ module _ (s : DumpSettings) (ms : MachineSettings) (memory buffer : List ℕ) (g
         hostFrame = λ h f b i c. let x = heard s h f b in on-heard h i f _ c x (alone.on-heard s (g .some) h (i .good) f _ x);
         hostTimer = λ h b i. let x = timed s h b in on-timed h i _ x (alone.on-timed s (g .some) h (i .good) _ x);
         machineFrame = λ e f b i c.
-            comes _ (react ms (e .machine) (fields f) f (e .memory)) (on-frame ms (e .machine) (e .memory) b f)
-            (subst (λ (y : Frame). Does (react ms (e .machine) (fields y) y (e .memory))) (sym (c .2)) (on-request e i (c .0) (c .1)));
+            comes _ (react ms (e .machine) (fields (ms .version) f) f (e .memory)) (on-frame ms (e .machine) (e .memory) b f)
+            (subst (λ (y : Frame). Does (react ms (e .machine) (fields (ms .version) y) y (e .memory))) (sym (c .2)) (on-request e i (c .0) (c .1)));
         machineTimer = λ e b i. comes _ (onTimer ms (e .machine) (e .memory)) (on-timer ms (e .machine) (e .memory) b) (on-tick e i);
       })
 

@@ -39,19 +39,19 @@ pub record Now (h : Session) (w c k v t : ℕ) : Type 0 where
 abbrev pub Sending : Session → Type 0
 Sending h = (h .waiting ≡ 0) × (h .verdict ≡ 0)
 
--- a frame that is an answer with this number and this error
+-- a frame that, read under some version, is an answer with this number and this error
 abbrev pub Answer : Frame → ℕ → ℕ → Type 0
-Answer f number error = (fields f .code ≡ 10) × (fields f .number ≡ number) × (fields f .error ≡ error)
+Answer f number error = (version : ℕ) × (fields version f .code ≡ 10) × (fields version f .number ≡ number) × (fields version f .error ≡ error)
 
 -- what an answer says; a request is none
 pub answer-says : (n e number error : ℕ) → Answer (layout (requestLoad n e)) number error → (n ≡ number) × (e ≡ error)
 answer-says n e number error a =
-    let r = request-load-fields n e in
-    (sym (ap (λ (f : Fields). f .number) r) ∙ a .1, sym (ap (λ (f : Fields). f .error) r) ∙ a .2)
+    let r = request-load-fields (a .0) n e in
+    (sym (ap (λ (f : Fields). f .number) r) ∙ a .2, sym (ap (λ (f : Fields). f .error) r) ∙ a .3)
 
 pub no-answer : (ms : MachineSettings) (number error : ℕ) → Answer (layout (asksLoad ms)) number error → ⊥
 no-answer ms number error a =
-    let code = ap (λ (f : Fields). f .code) (request-program-fields (ms .device) (ms .processor)) in omega (arith, a .0)
+    let code = ap (λ (f : Fields). f .code) (request-program-fields (a .0) (ms .device) (ms .processor)) in omega (arith, a .1)
 
 -- N frames F, each repeated at most R times
 module _ (N R : ℕ) (F : ℕ → Frame) where
@@ -98,32 +98,32 @@ module _ (s : Settings) (file string : List ℕ) where
       same : OnFrame (load-record.ignores h)
       same = ignored h (now h refl refl)
 
-      on-request : h .verdict ≡ 0 → OnFrame (next.onRequest h (fields f .program))
+      on-request : h .verdict ≡ 0 → OnFrame (next.onRequest h (fields (s .version) f .program))
       on-request v =
-          by-cases OnFrame (eqb (h .waiting) 1 && eqb (fields f .program) 2)
-          (λ t. begins _ (eqb-true _ _ (both (eqb (h .waiting) 1) (eqb (fields f .program) 2) t .0)) v (now _ refl v)) (λ _. same)
+          by-cases OnFrame (eqb (h .waiting) 1 && eqb (fields (s .version) f .program) 2)
+          (λ t. begins _ (eqb-true _ _ (both (eqb (h .waiting) 1) (eqb (fields (s .version) f .program) 2) t .0)) v (now _ refl v)) (λ _. same)
 
-      on-answer : fields f .code ≡ 10 → h .verdict ≡ 0 → OnFrame (next.onAnswer N h (fields f .number) (fields f .error))
+      on-answer : fields (s .version) f .code ≡ 10 → h .verdict ≡ 0 → OnFrame (next.onAnswer N h (fields (s .version) f .number) (fields (s .version) f .error))
       on-answer c v =
-          by-cases OnFrame (eqb (h .waiting) 0 && eqb (fields f .number) ((h .position + 1) % 256)) (λ t.
-          let z = both (eqb (h .waiting) 0) (eqb (fields f .number) ((h .position + 1) % 256)) t in
+          by-cases OnFrame (eqb (h .waiting) 0 && eqb (fields (s .version) f .number) ((h .position + 1) % 256)) (λ t.
+          let z = both (eqb (h .waiting) 0) (eqb (fields (s .version) f .number) ((h .position + 1) % 256)) t in
           let w : Sending h = (eqb-true _ _ (z .0), v) in
-          by-cases OnFrame (eqb (fields f .error) 0) (λ q.
-          let right : Answer f ((h .position + 1) % 256) 0 = (c, eqb-true _ _ (z .1), eqb-true _ _ q) in
+          by-cases OnFrame (eqb (fields (s .version) f .error) 0) (λ q.
+          let right : Answer f ((h .position + 1) % 256) 0 = (s .version, c, eqb-true _ _ (z .1), eqb-true _ _ q) in
           by-cases OnFrame (load-record.more N h) (λ l. advances _ w right (ltb-true _ _ l) (now _ refl v))
           (λ l. finishes _ w right (ltb-false _ _ l) (now _ refl refl)))
-          (λ q. rejects _ (fields f .error) w (c, eqb-true _ _ (z .1), refl) (eqb-false _ _ q) (now _ (w .0) refl))) (λ _. same)
+          (λ q. rejects _ (fields (s .version) f .error) w (s .version, c, eqb-true _ _ (z .1), refl) (eqb-false _ _ q) (now _ (w .0) refl))) (λ _. same)
 
-      on-fields : OnFrame (next.react N h (fields f))
+      on-fields : OnFrame (next.react N h (fields (s .version) f))
       on-fields =
           by-cases OnFrame (eqb (h .verdict) 0) (λ v.
-          by-cases OnFrame (eqb (fields f .code) 8) (λ _. on-request (eqb-true _ _ v)) (λ _.
-          by-cases OnFrame (eqb (fields f .code) 10) (λ c. on-answer (eqb-true _ _ c) (eqb-true _ _ v)) (λ _. same))) (λ _. same)
+          by-cases OnFrame (eqb (fields (s .version) f .code) 8) (λ _. on-request (eqb-true _ _ v)) (λ _.
+          by-cases OnFrame (eqb (fields (s .version) f .code) 10) (λ c. on-answer (eqb-true _ _ c) (eqb-true _ _ v)) (λ _. same))) (λ _. same)
 
       pub heard : (b : List ℕ) → Heard N (s .repeats) F h f (turned hostEnd (load.loadFrame s h file string f b))
       heard b =
           came (Heard N (s .repeats) F h f) _ _ _
-          (called hostEnd (first (load-checks.refusal s h file string b ∷ fields f .refusal ∷ [])) h tt b (load.does s file string (next.react N h (fields f)))) refused on-fields
+          (called hostEnd (first (load-checks.refusal s h file string b ∷ fields (s .version) f .refusal ∷ [])) h tt b (load.does s file string (next.react N h (fields (s .version) f)))) refused on-fields
 
     abbrev OnTimer : Next → Type 0
     OnTimer n = Timed N (s .repeats) F h (does n)

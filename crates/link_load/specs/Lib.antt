@@ -10,5 +10,6 @@ pub mod ReportLaws
 pub mod Theorem
 pub mod RegionsLaws
 pub mod LoadedLaws
+pub mod BlockLaws
 pub mod RefusalLaws
 pub mod Audit

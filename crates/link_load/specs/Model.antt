@@ -1,9 +1,10 @@
 -- A load over the link: its ends, its fresh world, and what 'the first k are in' means (PROTOCOL 6, 'Link').
 use Prim.Native.Nat.{ℕ, zero, suc, _≤_, _<_, min}
 use mathlib.Core.Path.{_≡_}
-use mathlib.Core.Bool.{true, false, cond as pick}
+use mathlib.Core.Bool.{Bool, true, false, _&&_, cond as pick}
 use mathlib.Core.List.{List}
 use lib.ListN.{length}
+use lib.Dec.{eqb}
 use Rattle.memory.specs.Memory.{fits, laid}
 use Rattle.directory.specs.Directory.{trailer, regions}
 use Rattle.image.specs.Image.{many, segmentOf}
@@ -11,6 +12,7 @@ use Rattle.parameters.specs.declared.Parameters.{Parameters}
 use Rattle.parameters.specs.Parameters.{kept, none}
 use Rattle.machine_record.specs.declared.Settings.{Settings as MachineSettings}
 use Rattle.machine_record.specs.Record as machine
+use Rattle.machine_next.specs.Next.{parametersFit, parametersLaid}
 use Rattle.load_record.specs.declared.Session.{Session}
 use Rattle.load_record.specs.declared.Settings.{Settings as LoadSettings}
 use Rattle.load_record.specs.Record.{fresh}
@@ -47,19 +49,28 @@ module _ (file : List ℕ) (S : ℕ) (memory : List ℕ) where
   laidOver zero = memory
   laidOver (suc k) = laid (segmentOf file S k .bytes) (segmentOf file S k .address) (laidOver k)
 
--- how many of the first k frames are segments; a parameter frame behind them lays no bytes
+-- how many of the first k frames are segments, and whether the parameter frame behind them is one of the first k
 abbrev pub segments : LoadSettings → List ℕ → ℕ → ℕ
 segments s file k = min k (many (s .«segment_size») (regions file))
 
+abbrev pub parametersIn : LoadSettings → List ℕ → ℕ → Bool
+parametersIn s file k = given s && eqb k (frames s file)
+
 module _ (s : LoadSettings) (ms : MachineSettings) (file string memory : List ℕ) where
-  -- The first k of the load's n frames are in: the segments among them fit, memory is the old memory with those laid over it, and the machine
-  -- is Started with the image's transfer address and keeps what the parameter string says if k is n; otherwise it is not Started, and
-  -- keeps nothing.
+  -- memory after the first k frames: the old memory with the segments among them laid over it, and over that what a parameter frame lays
+  abbrev pub laidFrames : ℕ → List ℕ
+  laidFrames k =
+      let over = laidOver file (s .«segment_size») memory (segments s file k) in
+      pick (parametersIn s file k) (parametersLaid ms (kept string) over) over
+
+  -- The first k of the load's n frames are in: they fit, memory is the old memory with what they lay laid over it, and the machine is Started
+  -- with the image's transfer address and keeps what the parameter string says if k is n; otherwise it is not Started, and keeps nothing.
   pub record FirstIn (k : ℕ) (e : End) : Type 0 where
     pub most : k ≤ frames s file
     pub fitting : (i : ℕ) → i < segments s file k
         → fits (ms .window) (segmentOf file (s .«segment_size») i .address) (length (segmentOf file (s .«segment_size») i .bytes)) (length memory) ≡ true
-    pub memory-is : e .memory ≡ laidOver file (s .«segment_size») memory (segments s file k)
+    pub parameters-fit : parametersIn s file k ≡ true → parametersFit ms (length memory) ≡ true
+    pub memory-is : e .memory ≡ laidFrames k
     pub started : k ≡ frames s file → e .machine ≡ machine.started (leaves s string) (trailer file .transfer)
     pub not-started : (k ≡ frames s file → ⊥) → machine.is 4 (e .machine) ≡ false
     pub keeps-nothing : (k ≡ frames s file → ⊥) → e .machine .parameters ≡ none

@@ -24,7 +24,9 @@ use Rattle.parameters.specs.Parameters.{none}
 use Rattle.machine_record.specs.declared.Machine.{Machine}
 use Rattle.machine_record.specs.declared.Settings.{Settings as MachineSettings}
 use Rattle.machine_record.specs.Record.{requesting}
+use Rattle.version.specs.Version.{known}
 use Rattle.machine_checks.specs.Checks.{refusal as machineRefusal}
+use Rattle.machine_checks.specs.Laws.{in-range}
 use Rattle.machine_number.specs.Number.{after as after-number}
 use Rattle.load_record.specs.declared.Session.{Session}
 use Rattle.load_record.specs.declared.Settings.{Settings as LoadSettings}
@@ -72,25 +74,29 @@ module _ (s : LoadSettings) (N : ℕ) (h : Session) (g : Good N (s .repeats) h) 
 
 -- so with a reply buffer of 1,500 bytes no call is refused but for its frame
 not-refused : (s : LoadSettings) (file string : List ℕ) (h : Session) (reply : List ℕ) → cutRefusal file (s .«segment_size») ≡ 0
-    → load-checks.stringRefusal s string ≡ 0 → s .repeats ≤ 255 → s .«with_parameters» ≤ 1
+    → load-checks.stringRefusal s string ≡ 0 → s .repeats ≤ 255 → s .«with_parameters» ≤ 1 → known (s .version) ≡ true
     → Good (load-checks.frames s file) (s .repeats) h → 1500 ≤ length reply → load-checks.refusal s h file string reply ≡ 0
 unfolding first demand
-not-refused s file string h reply ok good few mark g l =
+not-refused s file string h reply ok good few mark version g l =
     let r = ready file (s .«segment_size») ok in
     let low = le-leb 1 (s .«segment_size») (r .some) in
     let high = le-leb (s .«segment_size») widest (r .narrow) in
     let whole : imageRefusal file ≡ 0 = rw (low, high) at ok in
-    rw (low, high, le-leb (s .repeats) 255 few, le-leb (s .«with_parameters») 1 mark, sound s (load-checks.frames s file) h g, le-leb 1500 (length reply) l, whole, consistent s (load-checks.frames s file) h g, good)
+    rw (low, high, le-leb (s .repeats) 255 few, le-leb (s .«with_parameters») 1 mark, version, sound s (load-checks.frames s file) h g, le-leb 1500 (length reply) l, whole, consistent s (load-checks.frames s file) h g, good)
 
 module _
     (s : LoadSettings) (ms : MachineSettings) (file string old : List ℕ) (ok : cutRefusal file (s .«segment_size») ≡ 0) (o : Octets file)
-    (good : load-checks.stringRefusal s string ≡ 0) (few : s .repeats ≤ 255) (mark : s .«with_parameters» ≤ 1)
+    (good : load-checks.stringRefusal s string ≡ 0) (same : ms .version ≡ s .version) (few : s .repeats ≤ 255) (mark : s .«with_parameters» ≤ 1)
     (fresh : machineRefusal ms requesting (length old) 1500 ≡ 0) (w : World Session End) (k : Kept s ms file string old ok o good w) where
   abbrev t : Frames ms
   t = fr s ms file string old ok o good
 
+  -- the machine's version is known, and it is the host's
+  version : known (s .version) ≡ true
+  version = rw (← same) (in-range ms requesting (length old) 1500 fresh .3)
+
   host-accepted : (reply : List ℕ) → 1500 ≤ length reply → load-checks.refusal s (w .host) file string reply ≡ 0
-  host-accepted reply l = not-refused s file string (w .host) reply ok good few mark (k .1 .0) l
+  host-accepted reply l = not-refused s file string (w .host) reply ok good few mark version (k .1 .0) l
 
   -- the machine's state and memory length stay within their ranges
   any : (a b : Bool) (x y z : Machine) → x .state ≤ 4 → y .state ≤ 4 → z .state ≤ 4 → pick a (pick b x y) z .state ≤ 4
@@ -110,26 +116,26 @@ module _
       (as-accepted ms requesting (machineAt t old (i .0)) (length old) (length reply) (omega arith) (state (i .0)) l fresh)
 
   -- every frame that the machine sends is read, and every frame of the load
-  said-read : (k : ℕ) → fields (layout (said t old k)) .refusal ≡ 0
-  said-read zero = rw (request-program-fields (ms .device) (ms .processor))
-  said-read (suc k) = rw (request-load-fields (after-number (k % 256)) (pick (t .fit k) 0 1))
+  said-read : (k : ℕ) → fields (s .version) (layout (said t old k)) .refusal ≡ 0
+  said-read zero = rw (request-program-fields (s .version) (ms .device) (ms .processor))
+  said-read (suc k) = rw (request-load-fields (s .version) (after-number (k % 256)) (pick (t .fit k) 0 1))
 
-  host-read : (f : Frame) (q : List Frame) → w .toHost ≡ f ∷ q → fields f .refusal ≡ 0
+  host-read : (f : Frame) (q : List Frame) → w .toHost ≡ f ∷ q → fields (s .version) f .refusal ≡ 0
   host-read f q e =
       let x = first-up (load-transfer s ms file string old ok o good) (loadEnds s ms file string) w f q (k .0) e in
       rw (x .1) (said-read (x .0))
 
-  machine-read : (f : Frame) (q : List Frame) → w .toMachine ≡ f ∷ q → fields f .refusal ≡ 0
+  machine-read : (f : Frame) (q : List Frame) → w .toMachine ≡ f ∷ q → fields (ms .version) f .refusal ≡ 0
   machine-read f q e =
       let x = first-down (load-transfer s ms file string old ok o good) (loadEnds s ms file string) w f q (k .0) e in
       let less : x .0 < t .many = ⊎-elim (λ l. l) (λ p. p .0) (x .2) in
-      rw (x .1) (frame-read s ms file string (length old) ok o (string-whole s string good) (x .0) less)
+      rw (x .1) (frame-read s ms file string (length old) ok o (string-whole s string good) (x .0) less same)
 
   pub unrefused : Unrefused (loadEnds s ms file string) w
   unrefused =
       record {
         hostFrame = λ f q b e l.
-            call.frame-unrefused hostEnd (load-checks.refusal s (w .host) file string b) f (w .host) tt b
+            call.frame-unrefused hostEnd (s .version) (load-checks.refusal s (w .host) file string b) f (w .host) tt b
             (λ (x : Fields). load.does s file string (next.react (load-checks.frames s file) (w .host) x)) (host-accepted b l) (host-read f q e);
         hostTimer = λ b l.
             call.unrefused hostEnd (load-checks.refusal s (w .host) file string b) (w .host) tt b

@@ -1,6 +1,6 @@
 -- The report of a load: what every run from fresh ends keeps, and what it says of the machine.
 use Prim.Native.Nat.{ℕ, zero, suc, _+_, _≤_, _<_, min}
-use mathlib.Core.Path.{_≡_, refl, ap, sym, subst, _∙_}
+use mathlib.Core.Path.{_≡_, refl, sym, subst, _∙_}
 use mathlib.Core.Bool.{Bool, true, false, cond as pick}
 use mathlib.Core.List.{List}
 use mathlib.Core.Logic.{_⊎_, ⊎-map}
@@ -8,13 +8,14 @@ use native.Mathlib.Omega.{arith}
 use lib.ListN.{length}
 use Rattle.octets.specs.Number.{Octets}
 use Rattle.directory.specs.Directory.{regions}
-use Rattle.image.specs.Image.{many, segmentOf, cutRefusal}
+use Rattle.image.specs.Image.{many, cutRefusal}
 use Rattle.machine_record.specs.declared.Settings.{Settings as MachineSettings}
-use Rattle.memory.specs.Memory.{laid as over}
+use Rattle.parameters.specs.Parameters.{kept as keptOf}
+use Rattle.machine_next.specs.Next.{parametersLaid}
 use Rattle.load_record.specs.declared.Session.{Session}
 use Rattle.load_record.specs.declared.Settings.{Settings as LoadSettings}
-use Rattle.load_checks.specs.Checks.{frames, stringRefusal}
-use Rattle.load_checks.specs.Laws.{string-whole}
+use Rattle.load_checks.specs.Checks.{given, frames, stringRefusal}
+use Rattle.load_checks.specs.Laws.{frames-few, string-whole}
 use Rattle.link.specs.Link.{World, Event}
 use Rattle.link.specs.LinkLaws.{Closed, always}
 use Rattle.link.specs.Bounded.{Alike, runWithin}
@@ -25,13 +26,13 @@ use Rattle.link.specs.AloneLaws.{Alone}
 use Rattle.link.specs.MachineEnd.{End}
 use Rattle.link.specs.WindowLaws as window
 use Rattle.link.specs.WindowLaws.{window-closed}
-use Rattle.link_load.specs.Model.{loadEnds, freshWorld, after, laidOver, segments, FirstIn}
+use Rattle.link_load.specs.Model.{loadEnds, freshWorld, after, laidOver, parametersIn, laidFrames, FirstIn}
 use Rattle.link_load.specs.Report.{Report}
 use Rattle.link_load.specs.HostLaws.{F, heard, timed}
 use Rattle.link_load.specs.AloneLaws.{Good, alone-load, bound}
 use Rattle.link_load.specs.FramesLaws.{Frames, receiver, laid, machineAt}
 use Rattle.link_load.specs.SenderLaws.{Stage, sending, sender, fresh}
-use Rattle.link_load.specs.ImageLaws.{isParameters, is-segment, no-parameters, last-frame, loadFrames}
+use Rattle.link_load.specs.ImageLaws.{no-parameters, parameters-last, in-last, in-early, loadFrames}
 use Rattle.link_load.specs.MeaningLaws as meaning
 use Rattle.link_load.specs.MeaningLaws.{Meaning, means}
 
@@ -112,30 +113,43 @@ module _ (s : LoadSettings) (ms : MachineSettings) (file string old : List ℕ) 
     always-within (loadEnds s ms file string) Windowed windowed (λ w x. absurd x) n (freshWorld ms old) es (at-first .2),
   )
 
-  -- the frames laid over are the segments among them
-  over-segments : (k : ℕ) → k ≤ n → meaning.laidOver fr old k ≡ laidOver file (s .«segment_size») old (segments s file k)
-  unfolding laidOver meaning.laidOver
-  over-segments zero l = let z : min 0 N ≡ 0 = omega arith in rw z
-  over-segments (suc k) l = go (isParameters s file k) refl (over-segments k (omega arith))
-    where
-      piece : List ℕ → List ℕ
-      piece memory = over (segmentOf file (s .«segment_size») k .bytes) (segmentOf file (s .«segment_size») k .address) memory
+  -- what the frames lay: the segments among them, and the parameter frame behind all
+  abbrev S : ℕ
+  S = s .«segment_size»
 
-      go : (p : Bool) → isParameters s file k ≡ p → meaning.laidOver fr old k ≡ laidOver file (s .«segment_size») old (min k N)
-          → pick p (meaning.laidOver fr old k) (piece (meaning.laidOver fr old k)) ≡ laidOver file (s .«segment_size») old (min (suc k) N)
-      go true e h = let z : min (suc k) N ≡ min k N = omega (arith, last-frame s file k e l) in rw z h
-      go false e h =
-          let less = is-segment s file k l e in
-          let z : min (suc k) N ≡ suc k = omega arith in
-          let y : min k N ≡ k = omega arith in
-          rw (z, h, y)
+  frames-segments : (k : ℕ) → k ≤ n → k ≤ N → meaning.laidOver fr old k ≡ laidOver file S old k
+  unfolding laidOver meaning.laidOver
+  frames-segments zero l h = refl
+  frames-segments (suc k) l h = rw (no-parameters s file k (omega arith), frames-segments k (omega arith) (omega arith))
+
+  abbrev segments-over : ℕ → List ℕ
+  segments-over k = laidOver file S old (min k N)
+
+  all-laid : given s ≡ true → meaning.laidOver fr old (suc N) ≡ parametersLaid ms (keptOf string) (segments-over (suc N))
+  unfolding meaning.laidOver
+  all-laid g =
+      let z : min (suc N) N ≡ N = omega arith in
+      rw (parameters-last s file g, z, frames-segments N (frames-few s N .0) (omega arith))
+
+  frames-laid : (k : ℕ) → k ≤ n → meaning.laidOver fr old k ≡ laidFrames s ms file string old k
+  frames-laid k l = go (parametersIn s file k) refl
+    where
+      go : (b : Bool) → parametersIn s file k ≡ b → meaning.laidOver fr old k ≡ pick b (parametersLaid ms (keptOf string) (segments-over k)) (segments-over k)
+      go true e =
+          let z = in-last s file k e in
+          rw (z .1) (all-laid (z .0))
+      go false e =
+          let less = in-early s file k l e in
+          let z : min k N ≡ k = omega arith in
+          rw z (frames-segments k l less)
 
   frames-in : (k : ℕ) (e : End) → meaning.FirstIn fr old k e → FirstIn s ms file string old k e
   frames-in k e i =
       record {
         most = i .most;
         fitting = λ j l. rw (no-parameters s file j (omega arith)) at (i .fitting j (omega arith));
-        memory-is = i .memory-is ∙ over-segments k (i .most);
+        parameters-fit = λ q. let z = in-last s file k q in rw (parameters-last s file (z .0)) at (i .fitting N (omega (arith, z .1)));
+        memory-is = i .memory-is ∙ frames-laid k (i .most);
         started = i .started;
         not-started = i .not-started;
         keeps-nothing = i .keeps-nothing;

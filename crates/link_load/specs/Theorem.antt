@@ -14,7 +14,7 @@ use Rattle.link_load.specs.Report.{Report}
 use Rattle.link_load.specs.ReportLaws.{kept, report}
 
 -- The theorem: one claim over the whole list, for an accepted image of bytes, no parameter string or an accepted one, any memory, any
--- settings.
+-- settings, of one version or of two.
 pub reported : (s : LoadSettings) (ms : MachineSettings) (file string old : List ℕ) → cutRefusal file (s .«segment_size») ≡ 0 → Octets file
     → stringRefusal s string ≡ 0 → (es : List (Event ⊥)) → Report s ms file string old (after s ms file string old es)
 reported s ms file string old ok o good es =

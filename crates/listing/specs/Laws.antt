@@ -13,6 +13,7 @@ use Rattle.bytes.specs.Bytes.{indexOf}
 use Rattle.octets.specs.TestLaws.{by-cases}
 use Rattle.buffer.specs.declared.Written.{Written}
 use Rattle.buffer.specs.Lay.{Came}
+use Rattle.version.specs.Version.{v30}
 use Rattle.message.specs.declared.Fields.{Fields}
 use Rattle.message.specs.Read.{byte, refusedFields, Row, rows, find, frame, fields}
 use Rattle.message.specs.Laws.{Each, by-find}
@@ -44,7 +45,7 @@ row-line k v s out h came =
     rw (le-ltb 6600 (length (filling patterns k v s)) l) at came
 
 -- the line of a frame, read or refused
-module _ (s out : List ℕ) {f : Fields} (e : f ≡ fields s) {r : Written} {out′ : List ℕ} where
+module _ (s out : List ℕ) {f : Fields} (e : f ≡ fields v30 s) {r : Written} {out′ : List ℕ} where
   pub refused-line : (f .refusal ≡ 0 → ⊥) → (v : List ℕ) → v ≡ numbers f → (k : ℕ) → k ≡ reasonRow (f .refusal)
       → Came (placed (filling patterns k v [] ++ chars "\n") out) r out′ → Came (placed (printed (spelled s)) out) r out′
   unfolding text
@@ -61,11 +62,11 @@ beyond none = 3
 beyond (some row) = 2
 
 -- the numbers of such a frame
-fields-long : (s : List ℕ) → 1500 < length s → fields s ≡ refusedFields (beyond (find rows (byte s 0)))
+fields-long : (s : List ℕ) → 1500 < length s → fields v30 s ≡ refusedFields (beyond (find rows (byte s 0)))
 unfolding fields Each beyond
 fields-long s h =
     rw (ne-eqb (length s) 0 (omega arith)) (by-find {R = λ (row : Row). (row .shortest ≤ 1500) × (row .longest ≤ 1500)}
-    (λ (o : Option Row). frame s o ≡ refusedFields (beyond o)) rows (byte s 0) (omega arith) refl
+    (λ (o : Option Row). frame v30 s o ≡ refusedFields (beyond o)) rows (byte s 0) (omega arith) refl
     (λ row _ l. rw (le-ltb (length s) (row .shortest) (omega arith), lt-ltb (row .longest) (length s) (omega arith))))
 
 -- the text of a refused frame has nothing of its bytes
@@ -78,17 +79,17 @@ unfolding beyond
 refusal-some none = λ e. omega arith
 refusal-some (some row) = λ e. omega arith
 
-text-first : (n : ℕ) (s : List ℕ) → 1500 < n → text (take n s) (fields (take n s)) ≡ text s (fields s)
+text-first : (n : ℕ) (s : List ℕ) → 1500 < n → text (take n s) (fields v30 (take n s)) ≡ text s (fields v30 s)
 text-first n s h =
     by-test (ltb n (length s)) _
     (λ l.
     let long = ltb-true n (length s) l in
     let size : length (take n s) ≡ n = simp length-take (omega arith) in
     let row = find rows (byte s 0) in
-    let f : fields (take n s) ≡ refusedFields (beyond row) =
+    let f : fields v30 (take n s) ≡ refusedFields (beyond row) =
     fields-long (take n s) (omega arith) ∙ ap (λ (code : ℕ). refusedFields (beyond (find rows code))) (getD-take n s 0 0 (omega arith)) in
     rw (f, fields-long s (omega arith)) (text-refused (take n s) s (refusedFields (beyond row)) (refusal-some row)))
-    (λ l. ap (λ (t : List ℕ). text t (fields t)) (take-all n s (ltb-false n (length s) l)))
+    (λ l. ap (λ (t : List ℕ). text t (fields v30 t)) (take-all n s (ltb-false n (length s) l)))
 
 printed-capped : (n : ℕ) (d : Decoded) → 1500 < n → printed (capped n d) ≡ printed d
 printed-capped n notHexadecimal h = refl

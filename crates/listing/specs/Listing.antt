@@ -5,6 +5,7 @@ use mathlib.Core.Bool.{cond as pick}
 use mathlib.Core.List.{List, [], _∷_, _++_}
 use lib.Dec.{eqb}
 use Rattle.buffer.specs.Lay.{Came}
+use Rattle.version.specs.Version.{v30}
 use Rattle.message.specs.Read.{fields}
 use Rattle.text.specs.Text.{chars, placed}
 use Rattle.hexadecimal.specs.Hexadecimal.{Decoded, notHexadecimal, spelled, hexadecimal}
@@ -15,7 +16,7 @@ use Rattle.listing.specs.Frame.{text}
 -- the line that is printed for a line
 abbrev pub printed : Decoded → List ℕ
 printed notHexadecimal = chars "not hexadecimal\n"
-printed (spelled s) = text s (fields s) ++ chars "\n"
+printed (spelled s) = text s (fields v30 s) ++ chars "\n"
 
 -- a character in front of the first of the lines that follow
 abbrev pub onto : ℕ → List (List ℕ) → List (List ℕ)

@@ -134,7 +134,7 @@ fn line(k: usize, v: &[usize], s: &[u8], out: &mut [u8]) -> Written
 pub fn show(s: &[u8], out: &mut [u8]) -> Written
     ensures { λ r. ⌜ Came (placed (printed (spelled (now (s .entry)))) (now (out .entry))) r (now (out .exit)) ⌝ }
 {
-    let f = reader::read(s);
+    let f = reader::read(version::V3_0, s);
     let v = numbers(f);
     if f.refusal != 0 {
         let none = [0u8; 0];

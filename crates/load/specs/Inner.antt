@@ -32,4 +32,4 @@ pub record Sendable (s : Settings) (file string : List ℕ) (i : ℕ) (k : Rulin
   pub short : k .segment .length ≤ widest
   pub few : i < 18446744073709551615
   pub room : 1500 ≤ length reply
-  pub parameters : given s ≡ true → Whole string
+  pub parameters : given s ≡ true → Whole (s .version) string

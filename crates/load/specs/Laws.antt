@@ -16,26 +16,26 @@ use Rattle.load_checks.specs.Checks.{given}
 use Rattle.load_checks.specs.Laws.{Whole}
 use Rattle.load.specs.Load.{numbered}
 
--- a message that a load sends is listed and has at most 1,500 bytes
-abbrev pub Sent : Message → Type 0
-Sent m = (listed m ≡ true) × (length (layout m) ≤ 1500)
+-- a message that a load sends is listed under its version and has at most 1,500 bytes
+abbrev pub Sent : ℕ → Message → Type 0
+Sent version m = (listed version m ≡ true) × (length (layout m) ≤ 1500)
 
-parameters-sent : (number : ℕ) (string : List ℕ) (transfer : ℕ) → Whole string → Sent (parameters number string transfer)
+parameters-sent : (version number : ℕ) (string : List ℕ) (transfer : ℕ) → Whole version string → Sent version (parameters number string transfer)
 unfolding layout
-parameters-sent number string transfer w = (rw (w .0), simp (length-append, length-low) (omega (arith, w .1)))
+parameters-sent version number string transfer w = (rw (w .0), simp (length-append, length-low) (omega (arith, w .1)))
 
-module _ (number : ℕ) (p : Piece) (l : length (p .bytes) ≤ widest) where
-  transfer-sent : (transfer : ℕ) → Sent (memoryLoadTransfer number (p .address) (p .bytes) transfer)
+module _ (version number : ℕ) (p : Piece) (l : length (p .bytes) ≤ widest) where
+  transfer-sent : (transfer : ℕ) → Sent version (memoryLoadTransfer number (p .address) (p .bytes) transfer)
   unfolding layout
   transfer-sent transfer = (refl, simp (length-append, length-low) (omega arith))
 
-  segment-sent : Sent (memoryLoad number (p .address) (p .bytes))
+  segment-sent : Sent version (memoryLoad number (p .address) (p .bytes))
   unfolding layout
   segment-sent = (refl, simp (length-append, length-low) (omega arith))
 
-pub numbered-sent : (s : Settings) (string : List ℕ) (n transfer i : ℕ) (p : Piece) → (given s ≡ true → Whole string) → length (p .bytes) ≤ widest
-    → Sent (numbered s string n transfer i p)
+pub numbered-sent : (s : Settings) (string : List ℕ) (n transfer i : ℕ) (p : Piece) → (given s ≡ true → Whole (s .version) string) → length (p .bytes) ≤ widest
+    → Sent (s .version) (numbered s string n transfer i p)
 numbered-sent s string n transfer i p w l =
-    by-cases Sent (eqb (i + 1) n) {x = pick (given s) (parameters (i % 256) string transfer) (memoryLoadTransfer (i % 256) (p .address) (p .bytes) transfer)}
-    (λ _. by-cases Sent (given s) (λ g. parameters-sent (i % 256) string transfer (w g)) (λ _. transfer-sent (i % 256) p l transfer))
-    (λ _. segment-sent (i % 256) p l)
+    by-cases (Sent (s .version)) (eqb (i + 1) n) {x = pick (given s) (parameters (i % 256) string transfer) (memoryLoadTransfer (i % 256) (p .address) (p .bytes) transfer)}
+    (λ _. by-cases (Sent (s .version)) (given s) (λ g. parameters-sent (s .version) (i % 256) string transfer (w g)) (λ _. transfer-sent (s .version) (i % 256) p l transfer))
+    (λ _. segment-sent (s .version) (i % 256) p l)

@@ -47,7 +47,7 @@ does s file string next = acts (counted next) tt (sending next (frameMessage s f
 -- a step on a frame
 abbrev pub loadFrame : Settings → Session → List ℕ → List ℕ → List ℕ → List ℕ → Outcome Session Unit
 loadFrame s h file string frame reply =
-    frameCall (refusal s h file string reply) frame h tt reply (λ f. does s file string (react (frames s file) h f))
+    frameCall (s .version) (refusal s h file string reply) frame h tt reply (λ f. does s file string (react (frames s file) h f))
 
 -- a step on a timer
 abbrev pub loadTimer : Settings → Session → List ℕ → List ℕ → List ℕ → Outcome Session Unit

@@ -61,7 +61,7 @@ fn send(
         return writer::memory_load(number, k.segment.address, bytes, reply);
     }
     if settings.with_parameters == 1 {
-        return writer_listed::parameters(number, parameters, k.transfer, reply);
+        return writer_listed::parameters(settings.version, number, parameters, k.transfer, reply);
     }
     writer::memory_load_transfer(number, k.segment.address, bytes, k.transfer, reply)
 }
@@ -121,7 +121,7 @@ pub fn frame(
     if k.refusal != 0 {
         return refused(k.refusal, session);
     }
-    let f = reader::read(frame);
+    let f = reader::read(settings.version, frame);
     if f.refusal != 0 {
         return refused(f.refusal, session);
     }

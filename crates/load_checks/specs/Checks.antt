@@ -6,6 +6,7 @@ use lib.ListN.{length}
 use lib.Dec.{eqb, leb}
 use Rattle.directory.specs.Directory.{trailer, regions, nowhere, refusal as imageRefusal}
 use Rattle.image.specs.Image.{many, segment, widest}
+use Rattle.version.specs.Version.{known}
 use Rattle.message.specs.Write.{entryList}
 use Rattle.step.specs.Step.{unless, first}
 use Rattle.load_record.specs.declared.Settings.{Settings}
@@ -23,10 +24,11 @@ framesOf s N = pick (given s) (N + 1) N
 abbrev pub frames : Settings → List ℕ → ℕ
 frames s file = framesOf s (many (s .«segment_size») (regions file))
 
--- S, R and the mark of a parameter string
+-- S, R, the mark of a parameter string and the version
 abbrev pub settled : Settings → Bool
 settled s =
     leb 1 (s .«segment_size») && leb (s .«segment_size») widest && leb (s .repeats) 255 && leb (s .«with_parameters») 1
+    && known (s .version)
 
 -- a waiting record has every number 0
 abbrev pub blank : Session → Bool
@@ -47,10 +49,10 @@ consistent n s h =
 abbrev pub longest : ℕ
 longest = 1493
 
--- the string's refusal: 4 for entries that a writer refuses, then 2; without a mark it is not looked at
+-- the string's refusal: 4 for entries that a writer refuses under the version, then 2; without a mark it is not looked at
 abbrev pub stringRefusal : Settings → List ℕ → ℕ
 stringRefusal s string =
-    pick (given s) (first (unless (entryList string .listed) 4 ∷ unless (leb (length string) longest) 2 ∷ [])) 0
+    pick (given s) (first (unless (entryList string .listed (s .version)) 4 ∷ unless (leb (length string) longest) 2 ∷ [])) 0
 
 -- a call's refusal; 0 is none
 abbrev pub refusal : Settings → Session → List ℕ → List ℕ → List ℕ → ℕ

@@ -15,6 +15,7 @@ use Rattle.image.specs.Image.{many, segment, widest, cutRefusal}
 use Rattle.image.specs.Laws.{many-range}
 use Rattle.buffer.specs.Lay.{laid, refuse}
 use Rattle.message.specs.Message.{parameters}
+use Rattle.version.specs.Version.{known}
 use Rattle.message.specs.Write.{entryList, layout, write}
 use Rattle.step.specs.Step.{unless, first}
 use Rattle.step.specs.Laws.{met, none}
@@ -29,17 +30,20 @@ pub record Set (s : Settings) : Type 0 where
   pub narrow : s .«segment_size» ≤ widest
   pub few : s .repeats ≤ 255
   pub mark : s .«with_parameters» ≤ 1
+  pub version : known (s .version) ≡ true
 
 pub set : (s : Settings) → settled s ≡ true → Set s
 set s e =
     let all = both _ _ e in
-    let numbers = both _ _ (all .0) in
+    let marks = both _ _ (all .0) in
+    let numbers = both _ _ (marks .0) in
     let size = both _ _ (numbers .0) in
     record {
       some = leb-true _ _ (size .0);
       narrow = leb-true _ _ (size .1);
       few = leb-true _ _ (numbers .1);
-      mark = leb-true _ _ (all .1);
+      mark = leb-true _ _ (marks .1);
+      version = all .1;
     }
 
 -- then the image alone decides how it is cut
@@ -77,22 +81,22 @@ fitting n s h e =
       goes = λ v. let elsewhere : h .position ≡ n → ⊥ = eqb-false _ _ (not-true _ (rw v at verdict)) in omega arith;
     }
 
--- a parameter string that is accepted: a writer lists its entries, and its frame has at most 1,500 bytes
-abbrev pub Whole : List ℕ → Type 0
-Whole string = (entryList string .listed ≡ true) × (length string ≤ longest)
+-- a parameter string that is accepted: a writer lists its entries under the version, and its frame has at most 1,500 bytes
+abbrev pub Whole : ℕ → List ℕ → Type 0
+Whole version string = (entryList string .listed version ≡ true) × (length string ≤ longest)
 
-pub string-whole : (s : Settings) (string : List ℕ) → stringRefusal s string ≡ 0 → given s ≡ true → Whole string
+pub string-whole : (s : Settings) (string : List ℕ) → stringRefusal s string ≡ 0 → given s ≡ true → Whole (s .version) string
 string-whole s string e g =
-    let r : first (unless (entryList string .listed) 4 ∷ unless (leb (length string) longest) 2 ∷ []) ≡ 0 = rw g at e in
+    let r : first (unless (entryList string .listed (s .version)) 4 ∷ unless (leb (length string) longest) 2 ∷ []) ≡ 0 = rw g at e in
     let listed = none _ _ r in
     let short = none _ _ (listed .1) in
     (met _ 4 (omega arith) (listed .0), leb-true _ _ (met _ 2 (omega arith) (short .0)))
 
--- what a load refuses of a string is what the writer of code 20 refuses of it, given a buffer of at least 1,500 bytes
+-- what a load refuses of a string is what the writer of code 20 refuses of it under the same version, given a buffer of at least 1,500 bytes
 pub string-as-written : (s : Settings) (string : List ℕ) (number transfer : ℕ) (out : List ℕ) → given s ≡ true → 1500 ≤ length out
-    → stringRefusal s string ≡ write (parameters number string transfer) out .answer .refusal
+    → stringRefusal s string ≡ write (s .version) (parameters number string transfer) out .answer .refusal
 unfolding first write layout
-string-as-written s string number transfer out g h = rw g (go (entryList string .listed))
+string-as-written s string number transfer out g h = rw g (go (entryList string .listed (s .version)))
   where
     size : length (layout (parameters number string transfer)) ≡ length string + 7
     size = simp (length-append, length-low) (omega arith)
@@ -118,7 +122,7 @@ pub record Accepted (s : Settings) (h : Session) (file string reply : List ℕ) 
   pub whole : cutRefusal file (s .«segment_size») ≡ 0
   pub few : frames s file ≤ addresses + 1
   pub fits : Fitting (frames s file) s h
-  pub parameters : given s ≡ true → Whole string
+  pub parameters : given s ≡ true → Whole (s .version) string
 
 pub accepted : (s : Settings) (h : Session) (file string reply : List ℕ) → refusal s h file string reply ≡ 0 → Accepted s h file string reply
 accepted s h file string reply e =

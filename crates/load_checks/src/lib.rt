@@ -29,7 +29,10 @@ fn settled(settings: Settings) -> bool
     if 255 < settings.repeats {
         return false;
     }
-    settings.with_parameters <= 1
+    if 1 < settings.with_parameters {
+        return false;
+    }
+    version::known(settings.version)
 }
 
 // Whether all numbers of a record are 0.
@@ -103,7 +106,7 @@ fn string_refusal(settings: Settings, parameters: &[u8]) -> u8
     if settings.with_parameters != 1 {
         return 0;
     }
-    if !writer_listed::listed(parameters) {
+    if !writer_listed::listed(settings.version, parameters) {
         return 4;
     }
     if 1493 < parameters.len() {

@@ -3,13 +3,14 @@ ghost use mathlib.Core.Path.{_≡_};
 ghost use Prim.Native.Nat.{_<_, _≤_};
 ghost use Rattle.load_record.specs.Record.{fresh, reached, repeated, ignores, goesOut, ends, more};
 
-// Its settings: S, the bytes of a segment; R, the repeats allowed per frame; and whether a parameter string ends the load (1)
-// or not (0).
+// Its settings: S, the bytes of a segment; R, the repeats allowed per frame; whether a parameter string ends the load (1)
+// or not (0); and the version.
 #[repr(C)]
 pub struct Settings {
     pub segment_size: u32,
     pub repeats: u32,
     pub with_parameters: u8,
+    pub version: u8,
 }
 
 // Its record: c, the frames answered; the frames sent; the repeats of the frame on its way; whether it still waits for a

@@ -10,6 +10,7 @@ use borrow.Author.Tests.{leb-true}
 use Rattle.buffer.specs.declared.Written.{Written}
 use Rattle.octets.specs.TestLaws.{both}
 use Rattle.buffer.specs.Lay.{written}
+use Rattle.version.specs.Version.{known}
 use Rattle.step.specs.Step.{unless, gives, Leaves}
 use Rattle.step.specs.Laws.{met, none, call-accepted}
 use Rattle.looptest_record.specs.declared.Settings.{Settings}
@@ -29,7 +30,7 @@ accepted s h size room e =
     let first = none (unless (settled s size) 10) (unless (sound s h) 10 ∷ unless (leb 1500 room) 9 ∷ []) e in
     let second = none (unless (sound s h) 10) (unless (leb 1500 room) 9 ∷ []) (first .1) in
     let third = none (unless (leb 1500 room) 9) [] (second .1) in
-    let ranges = both (leb (s .repeats) 255) (leb size 1497) (met (settled s size) 10 (omega arith) (first .0)) in
+    let ranges = both (leb (s .repeats) 255) (leb size 1497) (both _ (known (s .version)) (met (settled s size) 10 (omega arith) (first .0)) .0) in
     let counts = both (leb (h .verdict) 3 && leb (h .repeats) (s .repeats)) (leb (h .sent) (s .repeats + 1)) (met (sound s h) 10 (omega arith) (second .0)) in
     let few = leb-true (s .repeats) 255 (ranges .0) in
     let most = leb-true (h .sent) (s .repeats + 1) (counts .1) in

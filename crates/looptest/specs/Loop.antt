@@ -5,6 +5,7 @@ use mathlib.Core.Bool.{Bool, _&&_, cond as pick}
 use mathlib.Core.List.{List, [], _∷_}
 use lib.ListN.{length}
 use lib.Dec.{leb}
+use Rattle.version.specs.Version.{known}
 use Rattle.message.specs.declared.Fields.{Fields}
 use Rattle.message.specs.Message.{loopData}
 use Rattle.message.specs.Read.{part}
@@ -24,9 +25,9 @@ abbrev pub counted : Session → Session
 counted h = record { sent = h .sent + 1; repeats = h .repeats; verdict = h .verdict }
 
 -- ---- refusals
--- R and the data are within their ranges
+-- R and the data are within their ranges, and the version is known
 abbrev pub settled : Settings → ℕ → Bool
-settled s size = leb (s .repeats) 255 && leb size 1497
+settled s size = leb (s .repeats) 255 && leb size 1497 && known (s .version)
 
 -- the record is none of those that are bad (PROTOCOL 7, 'Refusals')
 abbrev pub sound : Settings → Session → Bool
@@ -55,7 +56,7 @@ loopStart s bytes reply = call (refusal s begun (length bytes) (length reply)) b
 
 -- a step on a frame
 abbrev pub loopFrame : Settings → Session → List ℕ → List ℕ → List ℕ → Outcome Session (Unit {0})
-loopFrame s h bytes frame reply = frameCall (refusal s h (length bytes) (length reply)) frame h tt reply (onFrame s h bytes frame)
+loopFrame s h bytes frame reply = frameCall (s .version) (refusal s h (length bytes) (length reply)) frame h tt reply (onFrame s h bytes frame)
 
 -- a step on a timer
 abbrev pub loopTimer : Settings → Session → List ℕ → List ℕ → Outcome Session (Unit {0})

@@ -37,7 +37,7 @@ fn counted(h: Session) -> Session
     next
 }
 
-// A call's refusal: 10 for R, the data or the record, then 9; 0 is none.
+// A call's refusal: 10 for R, the data, the version or the record, then 9; 0 is none.
 fn refusal(s: Settings, h: Session, size: usize, room: usize) -> u8
     ensures { λ r. ⌜ r ≡ refusal s h size room ⌝ }
 {
@@ -45,6 +45,9 @@ fn refusal(s: Settings, h: Session, size: usize, room: usize) -> u8
         return 10;
     }
     if 1497 < size {
+        return 10;
+    }
+    if !version::known(s.version) {
         return 10;
     }
     if 3 < h.verdict {
@@ -121,7 +124,7 @@ pub fn frame(
     if refusal != 0 {
         return refused(session, refusal);
     }
-    let f = reader::read(frame);
+    let f = reader::read(settings.version, frame);
     if f.refusal != 0 {
         return refused(session, f.refusal);
     }

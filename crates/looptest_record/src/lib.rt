@@ -2,11 +2,12 @@
 ghost use mathlib.Core.Path.{_≡_};
 ghost use Rattle.looptest_record.specs.Record.{ended};
 
-// Its settings: R, the repeats allowed, and the receipt that its frame carries.
+// Its settings: R, the repeats allowed, the receipt that its frame carries, and the version.
 #[repr(C)]
 pub struct Settings {
     pub repeats: u32,
     pub receipt: u16,
+    pub version: u8,
 }
 
 // Its record: the frames sent, the repeats, the verdict: 0 open, 1 code 26 came, 2 code 24 came from a plug, 3 given up.

@@ -11,4 +11,4 @@ use Rattle.machine_next.specs.Next.{react}
 
 abbrev pub machineFrame : Settings → Machine → List ℕ → List ℕ → List ℕ → Outcome Machine (List ℕ)
 machineFrame s m frame memory reply =
-    frameCall (refusal s m (length memory) (length reply)) frame m memory reply (λ (f : Fields). react s m f frame memory)
+    frameCall (s .version) (refusal s m (length memory) (length reply)) frame m memory reply (λ (f : Fields). react s m f frame memory)

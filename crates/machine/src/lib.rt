@@ -1,7 +1,7 @@
 // The machine end's calls (PROTOCOL 4, 'Machine end'): a step on a frame; those on timers are machine_timer's.
 ghost use mathlib.Core.Path.{_≡_};
 ghost use mathlib.Core.Bool.{cond};
-ghost use Prim.Native.Nat.{_+_, _≤_};
+ghost use Prim.Native.Nat.{ℕ, _+_, _≤_};
 ghost use lib.ListN.{length};
 ghost use Rattle.buffer.specs.Lay.{Came};
 ghost use Rattle.memory.specs.Memory.{deposited};
@@ -11,7 +11,7 @@ ghost use Rattle.message.specs.Write.{write};
 ghost use Rattle.step.specs.Step.{acts, gives, Leaves};
 ghost use Rattle.parameters.specs.Parameters.{kept};
 ghost use Rattle.machine_record.specs.Record.{keeping};
-ghost use Rattle.machine_next.specs.Next.{sending};
+ghost use Rattle.machine_next.specs.Next.{sending, stored};
 ghost use Rattle.machine.specs.Machine.{machineFrame};
 ghost use Rattle.machine.specs.Inner.{Short};
 use buffer::Written;
@@ -20,12 +20,12 @@ pub use machine_record::Machine;
 pub use machine_record::Settings;
 pub use machine_record::Stepped;
 use message::Fields;
-use window::Window;
+use parameters::Parameters;
 
 // Code 26: the frame's data again.
 fn looped(f: Fields, frame: &[u8], reply: &mut [u8]) -> Written
     requires { ⌜ f .«data_at» + f .«data_length» ≤ length (now frame) ⌝ }
-    ensures { λ r. ⌜ Came (write (loopedData (f .receipt) (part (now (frame .entry)) f)) (now (reply .entry))) r (now (reply .exit)) ⌝ }
+    ensures { λ r. ⌜ ((version : ℕ) → Came (write version (loopedData (f .receipt) (part (now (frame .entry)) f)) (now (reply .entry))) r (now (reply .exit))) ⌝ }
 {
     let at = f.data_at;
     let end = at + f.data_length;
@@ -76,17 +76,41 @@ fn keep(machine: Machine, keeps: bool, f: Fields, frame: &[u8]) -> Machine
     machine_record::keeping(machine, parameters::keep(&frame[at..end]))
 }
 
-// The frame's data goes to memory if it is taken.
-fn store(takes: bool, window: Window, f: Fields, frame: &[u8], memory: &mut [u8])
-    requires { ⌜ f .«data_at» + f .«data_length» ≤ length (now frame) ⌝ }
-    ensures { λ r. ⌜ now (memory .exit) ≡ cond takes (deposited window (part (now (frame .entry)) f) (f .address) (now (memory .entry))) (now (memory .entry)) ⌝ }
+// Parameters go to memory, as their block, if the version stores them there.
+fn store(settings: Settings, parameters: Parameters, memory: &mut [u8])
+    ensures { λ r. ⌜ now (memory .exit) ≡ stored settings parameters (now (memory .entry)) ⌝ }
 {
-    if !takes {
+    if !version::older(settings.version) {
         return;
     }
-    let at = f.data_at;
-    let end = at + f.data_length;
-    memory::deposit(window, &frame[at..end], f.address, memory);
+    let at = block::place(memory.len());
+    let bytes = block::block(parameters, memory);
+    memory::deposit(settings.window, &bytes, at, memory);
+}
+
+// The frame's data goes to memory if it is taken, the parameters if they are kept.
+fn fill(
+    settings: Settings,
+    takes: bool,
+    keeps: bool,
+    parameters: Parameters,
+    f: Fields,
+    frame: &[u8],
+    memory: &mut [u8],
+)
+    requires { ⌜ f .«data_at» + f .«data_length» ≤ length (now frame) ⌝ }
+    ensures { λ r. ⌜ now (memory .exit) ≡ cond takes (deposited (settings .window) (part (now (frame .entry)) f) (f .address) (now (memory .entry)))
+        (cond keeps (stored settings parameters (now (memory .entry))) (now (memory .entry))) ⌝ }
+{
+    if takes {
+        let at = f.data_at;
+        let end = at + f.data_length;
+        memory::deposit(settings.window, &frame[at..end], f.address as usize, memory);
+        return;
+    }
+    if keeps {
+        store(settings, parameters, memory);
+    }
 }
 
 // A step on a frame.
@@ -103,7 +127,7 @@ pub fn frame(
     if n != 0 {
         return machine_record::refused(machine, n);
     }
-    let f = reader::read(frame);
+    let f = reader::read(settings.version, frame);
     if f.refusal != 0 {
         return machine_record::refused(machine, f.refusal);
     }
@@ -111,6 +135,14 @@ pub fn frame(
     let sends = next.sends;
     let machine = keep(next.machine, next.keeps, f, frame);
     let stepped = send(machine, f, sends, frame, memory, reply);
-    store(next.takes, settings.window, f, frame, memory);
+    fill(
+        settings,
+        next.takes,
+        next.keeps,
+        machine.parameters,
+        f,
+        frame,
+        memory,
+    );
     stepped
 }

@@ -4,7 +4,7 @@ ghost use Rattle.machine_checks.specs.Checks.{refusal};
 use machine_record::Machine;
 use machine_record::Settings;
 
-// Why a step is refused before its input is read: 10, then 9; 0 if it is not.
+// Why a step is refused before its input is read: 10, then 11, then 9; 0 if it is not.
 pub fn refusal(settings: Settings, machine: Machine, size: usize, room: usize) -> u8
     ensures { λ r. ⌜ r ≡ refusal settings machine size room ⌝ }
 {
@@ -20,8 +20,14 @@ pub fn refusal(settings: Settings, machine: Machine, size: usize, room: usize) -
     if !window::allowed(settings.window) {
         return 10;
     }
+    if !version::known(settings.version) {
+        return 10;
+    }
     if 4 < machine.state {
         return 10;
+    }
+    if !block::roomy(settings.version, size) {
+        return 11;
     }
     if room < 1500 {
         return 9;

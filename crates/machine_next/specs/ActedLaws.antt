@@ -1,13 +1,18 @@
 -- All that a machine can do on a frame: what is so of each of these is so of `react`.
 use Prim.Native.Nat.{ℕ, _≤_, min}
 use mathlib.Core.Path.{_≡_, refl}
-use mathlib.Core.Bool.{Bool, true, false, _||_}
+use mathlib.Core.Bool.{Bool, true, false, _||_, cond as pick}
 use mathlib.Core.List.{List}
 use native.Mathlib.Omega.{arith}
 use lib.ListN.{length}
 use lib.Dec.{eqb}
 use borrow.Author.Tests.{eqb-true}
 use Rattle.octets.specs.TestLaws.{by-cases}
+use Rattle.version.specs.Version.{older}
+use Rattle.parameters.specs.declared.Parameters.{Parameters}
+use Rattle.parameters.specs.Parameters.{kept}
+use Rattle.block.specs.Block.{place, block}
+use Rattle.block.specs.Laws.{length-block}
 use Rattle.memory.specs.Memory.{fits, laid, bytesFrom}
 use Rattle.message.specs.declared.Fields.{Fields}
 use Rattle.message.specs.Message.{requestLoad, dumpData, loopedData}
@@ -17,19 +22,19 @@ use Rattle.machine_record.specs.declared.Settings.{Settings}
 use Rattle.machine_record.specs.declared.Machine.{Machine}
 use Rattle.machine_record.specs.Record.{idle, loading, started, is}
 use Rattle.machine_number.specs.Number.{after, heed}
-use Rattle.machine_next.specs.Next.{byNumber, onLoad, onParameters, react}
+use Rattle.machine_next.specs.Next.{byNumber, takenAs, onLoad, onParameters, react}
 
 module _ (s : Settings) (m : Machine) (f : Fields) (frame memory : List ℕ) where
   abbrev data-of : List ℕ
   data-of = part frame f
 
-  -- It ignores the frame; answers a load or parameters, with or without the data laid over memory; sends a part of memory; ends Offering; or
-  -- returns a loop's data. A load's data is laid only where it fits. A machine that was past Offering stays so.
+  -- It ignores the frame; answers a load or parameters, with or without bytes laid over memory; sends a part of memory; ends Offering; or
+  -- returns a loop's data. Bytes are laid only where they fit. A machine that was past Offering stays so.
   pub data Acted : Act Machine (List ℕ) → Type 0 where
     ignored : Acted (ignores m memory)
     answered : (m′ : Machine) (number error : ℕ) → (2 ≤ m .state → 2 ≤ m′ .state) → Acted (acts m′ memory (sends (requestLoad number error)))
-    loaded : (m′ : Machine) (number : ℕ) → 2 ≤ m′ .state → fits (s .window) (f .address) (length data-of) (length memory) ≡ true
-        → Acted (acts m′ (laid data-of (f .address) memory) (sends (requestLoad number 0)))
+    loaded : (m′ : Machine) (number : ℕ) (bytes : List ℕ) (address : ℕ) → 2 ≤ m′ .state → fits (s .window) address (length bytes) (length memory) ≡ true
+        → Acted (acts m′ (laid bytes address memory) (sends (requestLoad number 0)))
     dumped : m .state ≤ 1 → Acted (acts m memory (sends (dumpData (f .address) (bytesFrom memory (f .address) (min (f .count) (s .«reply_bytes»))))))
     completed : m .state ≡ 1 → Acted (acts (idle (m .parameters)) memory nothing)
     looped : f .code ≡ 24 → m .state ≡ 0 → Acted (acts m memory (sends (loopedData (f .receipt) data-of)))
@@ -44,12 +49,29 @@ module _ (s : Settings) (m : Machine) (f : Fields) (frame memory : List ℕ) whe
   on-load : (number : ℕ) (fitted : Machine) → 2 ≤ fitted .state → Acted (onLoad s m number (f .address) data-of fitted memory)
   unfolding onLoad
   on-load number fitted l =
-      numbered number _ (by-cases Acted (fits (s .window) (f .address) (length data-of) (length memory)) (λ e. loaded fitted (after number) l e)
+      numbered number _ (by-cases Acted (fits (s .window) (f .address) (length data-of) (length memory)) (λ e. loaded fitted (after number) data-of (f .address) l e)
       (λ _. answered (loading (m .parameters) (after number) 1) (after number) 1 (λ _. omega arith)))
 
-  on-parameters : Acted (onParameters m (f .number) data-of (f .transfer) memory)
+  on-parameters : Acted (onParameters s m (f .number) data-of (f .transfer) memory)
   unfolding onParameters
-  on-parameters = numbered (f .number) _ (answered _ (after (f .number)) 0 (λ _. omega arith))
+  on-parameters = numbered number _ (go (older (s .version)))
+    where
+      number : ℕ
+      number = f .number
+
+      p : Parameters
+      p = kept data-of
+
+      refused : Acted (acts (loading (m .parameters) (after number) 1) memory (sends (requestLoad (after number) 1)))
+      refused = answered (loading (m .parameters) (after number) 1) (after number) 1 (λ _. omega arith)
+
+      go : (b : Bool)
+          → Acted (takenAs (m .parameters) number (pick b (fits (s .window) (place (length memory)) 14 (length memory)) true) (started p (f .transfer))
+          (pick b (laid (block p memory) (place (length memory)) memory) memory) memory)
+      go true =
+          by-cases Acted (fits (s .window) (place (length memory)) 14 (length memory))
+          (λ e. loaded (started p (f .transfer)) (after number) (block p memory) (place (length memory)) (omega arith) (rw (length-block p memory) e)) (λ _. refused)
+      go false = answered (started p (f .transfer)) (after number) 0 (λ _. omega arith)
 
   pub react-acted : Acted (react s m f frame memory)
   react-acted =

@@ -6,16 +6,21 @@ use mathlib.Core.List.{List}
 use native.Mathlib.Omega.{arith}
 use lib.ListN.{length}
 use lib.Dec.{eqb}
-use Rattle.memory.specs.Memory.{fits, laid}
+use Rattle.version.specs.Version.{older}
+use Rattle.parameters.specs.declared.Parameters.{Parameters}
+use Rattle.parameters.specs.Parameters.{kept}
+use Rattle.block.specs.Block.{place, block}
+use Rattle.block.specs.Laws.{length-block}
+use Rattle.memory.specs.Memory.{fits, laid, deposited}
 use Rattle.message.specs.declared.Fields.{Fields}
 use Rattle.message.specs.Read.{part}
 use Rattle.machine_record.specs.declared.Machine.{Machine}
 use Rattle.machine_record.specs.declared.Settings.{Settings}
-use Rattle.machine_record.specs.Record.{started}
+use Rattle.machine_record.specs.Record.{started, keeping}
 use Rattle.machine_number.specs.Number.{heed}
 use Rattle.machine_next.specs.declared.Sends.the-variants.{Nothing, Load}
 use Rattle.machine_next.specs.declared.Next.{Next}
-use Rattle.machine_next.specs.Next.{byNumber, takenAs, onLoad, onParameters, next, does}
+use Rattle.machine_next.specs.Next.{byNumber, takenAs, onLoad, parametersFit, parametersLaid, onParameters, next, stored, does}
 use Rattle.machine_next.specs.Inner.{taken, heeded}
 
 module _ (s : Settings) (f : Fields) (frame memory : List ℕ) where
@@ -44,10 +49,28 @@ module _ (s : Settings) (f : Fields) (frame memory : List ℕ) where
       does-heeded m number (taken m number (fits (s .window) (f .address) n size) fitted false)
       ∙ (rw (does-taken m number (fits (s .window) (f .address) n size) fitted (rw (p, q)), p, q))
 
-  pub does-parameters : (m : Machine) (number transfer : ℕ)
-      → does s f frame memory (heeded m number (taken m number true (started (m .parameters) transfer) true)) ≡ onParameters m number (part frame f) transfer memory
+  -- what is stored of parameters that fit is what they lay
+  stored-laid : (p : Parameters) → parametersFit s (length memory) ≡ true → stored s p memory ≡ parametersLaid s p memory
+  stored-laid p = go (older (s .version))
+    where
+      go : (b : Bool) → pick b (fits (s .window) (place (length memory)) 14 (length memory)) true ≡ true
+          → pick b (deposited (s .window) (block p memory) (place (length memory)) memory) memory ≡ pick b (laid (block p memory) (place (length memory)) memory) memory
+      go true e = rw (length-block p memory, e)
+      go false e = refl
+
+  does-kept : (m : Machine) (number : ℕ) (fit : Bool) (fitted : Machine) → parametersFit s (length memory) ≡ fit
+      → does s f frame memory (taken m number fit fitted true)
+      ≡ takenAs (m .parameters) number fit (keeping fitted (kept (part frame f))) (parametersLaid s (kept (part frame f)) memory) memory
+  does-kept m number true fitted e = rw (stored-laid (kept (part frame f)) e)
+  does-kept m number false fitted e = refl
+
+  pub does-parameters : (m : Machine) (number transfer size : ℕ) → length memory ≡ size
+      → does s f frame memory (heeded m number (taken m number (parametersFit s size) (started (m .parameters) transfer) true))
+      ≡ onParameters s m number (part frame f) transfer memory
   unfolding onParameters
-  does-parameters m number transfer = does-heeded m number (taken m number true (started (m .parameters) transfer) true)
+  does-parameters m number transfer size e =
+      let fitted = started (m .parameters) transfer in
+      does-heeded m number (taken m number (parametersFit s size) fitted true) ∙ (rw (does-kept m number (parametersFit s size) fitted (rw e), e))
 
 -- a state of at most 1 is Idle or Offering
 pub idle-or-offering : (state : ℕ) → state ≤ 1 → (eqb state 0 || eqb state 1) ≡ true

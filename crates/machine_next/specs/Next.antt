@@ -4,6 +4,8 @@ use mathlib.Core.Bool.{Bool, true, _||_, cond as pick}
 use mathlib.Core.List.{List}
 use lib.ListN.{length}
 use lib.Dec.{eqb}
+use Rattle.version.specs.Version.{older}
+use Rattle.block.specs.Block.{place, block}
 use Rattle.memory.specs.Memory.{fits, laid, deposited, bytesFrom}
 use Rattle.message.specs.declared.Fields.{Fields}
 use Rattle.message.specs.Message.{requestLoad, dumpData, loopedData}
@@ -26,12 +28,15 @@ byNumber m number taken memory =
     (pick (eqb (heed m number) 2) (acts m memory (sends (requestLoad (m .expected) (m .error))))
     (ignores m memory))
 
--- a frame that is taken by a machine with these parameters: the reply has the number after it; if the frame does not fit, error 1, and
--- nothing is written or kept
+-- a frame that is taken by a machine with these parameters and does not fit: the reply has the number after it and error 1, and nothing is
+-- written or kept
+abbrev pub unfit : Parameters → ℕ → List ℕ → Act Machine (List ℕ)
+unfit parameters number memory = acts (loading parameters (after number) 1) memory (sends (requestLoad (after number) 1))
+
+-- a frame that is taken: if it fits, error 0
 abbrev pub takenAs : Parameters → ℕ → Bool → Machine → List ℕ → List ℕ → Act Machine (List ℕ)
 takenAs parameters number fit fitted laid memory =
-    pick fit (acts fitted laid (sends (requestLoad (after number) 0)))
-    (acts (loading parameters (after number) 1) memory (sends (requestLoad (after number) 1)))
+    pick fit (acts fitted laid (sends (requestLoad (after number) 0))) (unfit parameters number memory)
 
 -- ---- a frame, by its code
 -- codes 0 and 2; `fitted` is the machine after a load that fits
@@ -40,10 +45,18 @@ onLoad s m number address bytes fitted memory =
     byNumber m number
     (takenAs (m .parameters) number (fits (s .window) address (length bytes) (length memory)) fitted (laid bytes address memory) memory) memory
 
--- code 20 always fits: it lays no bytes, and the machine is started and keeps what the entries say
-unfoldable pub onParameters : Machine → ℕ → List ℕ → ℕ → List ℕ → Act Machine (List ℕ)
-onParameters m number entries transfer memory =
-    byNumber m number (takenAs (m .parameters) number true (started (kept entries) transfer) memory memory) memory
+-- code 20 always fits under 3.0.0, and lays nothing; under 2.1 it fits as a load of its block does, and lays that
+abbrev pub parametersFit : Settings → ℕ → Bool
+parametersFit s size = pick (older (s .version)) (fits (s .window) (place size) 14 size) true
+
+abbrev pub parametersLaid : Settings → Parameters → List ℕ → List ℕ
+parametersLaid s p memory = pick (older (s .version)) (laid (block p memory) (place (length memory)) memory) memory
+
+-- if it fits, the machine is started and keeps what the entries say
+unfoldable pub onParameters : Settings → Machine → ℕ → List ℕ → ℕ → List ℕ → Act Machine (List ℕ)
+onParameters s m number entries transfer memory =
+    byNumber m number
+    (takenAs (m .parameters) number (parametersFit s (length memory)) (started (kept entries) transfer) (parametersLaid s (kept entries) memory) memory) memory
 
 -- code 4, in Idle or Offering
 abbrev pub onDump : Settings → Machine → ℕ → ℕ → List ℕ → Act Machine (List ℕ)
@@ -63,7 +76,7 @@ abbrev pub react : Settings → Machine → Fields → List ℕ → List ℕ →
 react s m f frame memory =
     pick (eqb (f .code) 0) (onLoad s m (f .number) (f .address) (part frame f) (started (m .parameters) (f .transfer)) memory)
     (pick (eqb (f .code) 2) (onLoad s m (f .number) (f .address) (part frame f) (loading (m .parameters) (after (f .number)) 0) memory)
-    (pick (eqb (f .code) 20) (onParameters m (f .number) (part frame f) (f .transfer) memory)
+    (pick (eqb (f .code) 20) (onParameters s m (f .number) (part frame f) (f .transfer) memory)
     (pick (eqb (f .code) 4) (onDump s m (f .address) (f .count) memory)
     (pick (eqb (f .code) 1) (onComplete m memory)
     (pick (eqb (f .code) 24) (onLoop m (f .receipt) (part frame f) memory)
@@ -84,7 +97,16 @@ next m takes keeps out = record { machine = m; takes = takes; keeps = keeps; sen
 abbrev pub keeps : Fields → List ℕ → Next → Machine
 keeps f frame n = pick (n .keeps) (keeping (n .machine) (kept (part frame f))) (n .machine)
 
--- what the decision does: the frame's data goes to memory, where it fits, if it is taken; its entries go into the record, if they are kept
+-- memory with these parameters stored in it: under 2.1 their block, where it fits
+abbrev pub stored : Settings → Parameters → List ℕ → List ℕ
+stored s p memory = pick (older (s .version)) (deposited (s .window) (block p memory) (place (length memory)) memory) memory
+
+-- memory after the decision: the frame's data goes to it, where it fits, if it is taken; its entries are stored in it, if they are kept
+abbrev pub fills : Settings → Fields → List ℕ → List ℕ → Bool → Bool → List ℕ
+fills s f frame memory takes keeps =
+    pick takes (deposited (s .window) (part frame f) (f .address) memory)
+    (pick keeps (stored s (kept (part frame f)) memory) memory)
+
+-- what the decision does: what is kept goes into the record, and memory is filled
 abbrev pub does : Settings → Fields → List ℕ → List ℕ → Next → Act Machine (List ℕ)
-does s f frame memory n =
-    acts (keeps f frame n) (pick (n .takes) (deposited (s .window) (part frame f) (f .address) memory) memory) (sending f frame memory (n .sends))
+does s f frame memory n = acts (keeps f frame n) (fills s f frame memory (n .takes) (n .keeps)) (sending f frame memory (n .sends))

@@ -7,7 +7,7 @@ ghost use lib.ListN.{length};
 ghost use Rattle.message.specs.Read.{part};
 ghost use Rattle.machine_record.specs.Record.{idle, is};
 ghost use Rattle.machine_next.specs.declared.Sends.the-variants.{Nothing, Data, Looped};
-ghost use Rattle.machine_next.specs.Next.{react, next, does};
+ghost use Rattle.machine_next.specs.Next.{parametersFit, react, next, does};
 ghost use Rattle.machine_next.specs.Inner.{taken, heeded};
 use machine_record::Machine;
 use machine_record::Settings;
@@ -124,6 +124,16 @@ fn on_loop(machine: Machine) -> Next
     }
 }
 
+// A code 20 fits a machine with a memory of this size.
+fn parameters_fit(settings: Settings, size: usize) -> bool
+    ensures { λ r. ⌜ r ≡ parametersFit settings size ⌝ }
+{
+    if !version::older(settings.version) {
+        return true;
+    }
+    memory::fitting(settings.window, block::place(size), block::LENGTH, size)
+}
+
 // On a frame it decides by its code.
 pub fn react(settings: Settings, machine: Machine, f: Fields, size: usize) -> Next
     ensures { λ r. ⌜ ((frame memory : List ℕ) → length (part frame f) ≡ f .«data_length» → length memory ≡ size
@@ -132,7 +142,7 @@ pub fn react(settings: Settings, machine: Machine, f: Fields, size: usize) -> Ne
     let code = f.code;
     match code {
         0 => {
-            let fit = memory::fitting(settings.window, f.address, f.data_length, size);
+            let fit = memory::fitting(settings.window, f.address as usize, f.data_length, size);
             on_load(
                 machine,
                 f.number,
@@ -142,7 +152,7 @@ pub fn react(settings: Settings, machine: Machine, f: Fields, size: usize) -> Ne
             )
         }
         2 => {
-            let fit = memory::fitting(settings.window, f.address, f.data_length, size);
+            let fit = memory::fitting(settings.window, f.address as usize, f.data_length, size);
             on_load(
                 machine,
                 f.number,
@@ -158,8 +168,9 @@ pub fn react(settings: Settings, machine: Machine, f: Fields, size: usize) -> Ne
             )
         }
         20 => {
+            let fit = parameters_fit(settings, size);
             let fitted = machine_record::in_state(4, 0, 0, f.transfer, machine.parameters);
-            on_load(machine, f.number, true, fitted, true)
+            on_load(machine, f.number, fit, fitted, true)
         }
         4 => on_dump(settings, machine, f.count),
         1 => on_complete(machine),

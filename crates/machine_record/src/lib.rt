@@ -6,12 +6,13 @@ use buffer::Written;
 use parameters::Parameters;
 use window::Window;
 
-// Its settings: D, the most bytes of a dump reply; its device and processor; its ROM window.
+// Its settings: D, the most bytes of a dump reply; its device and processor; its version; its ROM window.
 #[repr(C)]
 pub struct Settings {
     pub reply_bytes: u32,
     pub device: u8,
     pub processor: u8,
+    pub version: u8,
     pub window: Window,
 }
 

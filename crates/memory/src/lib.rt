@@ -1,7 +1,7 @@
 // The machine's memory (PROTOCOL 4, 'Machine end'): loads go to it, dump replies come from it.
 ghost use mathlib.Core.Path.{_≡_};
 ghost use mathlib.Core.List.{_++_};
-ghost use Prim.Native.Nat.{_+_, _≤_, _<_};
+ghost use Prim.Native.Nat.{ℕ, _+_, _≤_, _<_};
 ghost use lib.ListN.{length, replicate};
 ghost use Rattle.buffer.specs.Lay.{laid, Came};
 ghost use Rattle.message.specs.Message.{dumpData};
@@ -11,28 +11,27 @@ use buffer::Written;
 use window::Window;
 
 // A load of n bytes at an address fits a machine with this ROM window and a memory of this size.
-pub fn fitting(window: Window, address: u32, n: usize, size: usize) -> bool
+pub fn fitting(window: Window, address: usize, n: usize, size: usize) -> bool
     ensures { λ r. ⌜ r ≡ fits window address n size ⌝ }
 {
-    let at = address as usize;
-    if size < at {
+    if size < address {
         return false;
     }
-    if size - at < n {
+    if size - address < n {
         return false;
     }
     !window::touching(window, address, n)
 }
 
 // Image data goes to memory if it fits, and whether it does.
-pub fn deposit(window: Window, bytes: &[u8], address: u32, memory: &mut [u8]) -> bool
+pub fn deposit(window: Window, bytes: &[u8], address: usize, memory: &mut [u8]) -> bool
     ensures { λ r. ⌜ (r ≡ fits window address (length (now (bytes .entry))) (length (now (memory .entry))))
         × (now (memory .exit) ≡ deposited window (now (bytes .entry)) address (now (memory .entry))) ⌝ }
 {
     if !fitting(window, address, bytes.len(), memory.len()) {
         return false;
     }
-    buffer::put(bytes, memory, address as usize)
+    buffer::put(bytes, memory, address)
 }
 
 // As many zeros as a frame has bytes.
@@ -74,7 +73,7 @@ fn lay(head: &[u8], address: u32, n: usize, memory: &[u8], out: &mut [u8]) -> Wr
 
 // Code 14, memory dump data: n bytes of memory from an address on, 0 beyond its end.
 pub fn dump_data(address: u32, n: usize, memory: &[u8], out: &mut [u8]) -> Written
-    ensures { λ r. ⌜ Came (write (dumpData address (bytesFrom (now (memory .entry)) address n)) (now (out .entry))) r (now (out .exit)) ⌝ }
+    ensures { λ r. ⌜ ((version : ℕ) → Came (write version (dumpData address (bytesFrom (now (memory .entry)) address n)) (now (out .entry))) r (now (out .exit))) ⌝ }
 {
     let a = octets::low32(address);
     let head = [14, a[0], a[1], a[2], a[3]];

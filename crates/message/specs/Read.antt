@@ -73,9 +73,9 @@ ended (Transfer n) = pick (eqb n 0) 0 1
 ended Outside = 4
 ended Excess = 2
 
--- of a frame of this code whose length is right
-abbrev pub inTurn : ℕ → List ℕ → ℕ
-inTurn code s = pick (eqb code 8) (programRefusal s) (pick (eqb code 20) (ended (walk Kind (drop 2 s))) 0)
+-- of a frame of this code whose length is right; the version matters to code 20 alone
+abbrev pub inTurn : ℕ → ℕ → List ℕ → ℕ
+inTurn version code s = pick (eqb code 8) (programRefusal s) (pick (eqb code 20) (ended (walk version Kind (drop 2 s))) 0)
 
 -- the variable part, and the software id
 abbrev pub part : List ℕ → Fields → List ℕ
@@ -120,20 +120,21 @@ find (row ∷ rest) code = pick (eqb code (row .code)) (some row) (find rest cod
 
 -- ---- reading to numbers
 -- of a frame whose length is right
-abbrev pub judged : ℕ → ℕ → ℕ → List ℕ → Fields
-judged code at fixed s = pick (eqb (inTurn code s) 0) (numbers 0 code at fixed s) (refusedFields (inTurn code s))
+abbrev pub judged : ℕ → ℕ → ℕ → ℕ → List ℕ → Fields
+judged version code at fixed s =
+    pick (eqb (inTurn version code s) 0) (numbers 0 code at fixed s) (refusedFields (inTurn version code s))
 
 -- by the row of its code: 3 for a code that is not listed, then the least length, then the excess, then the bytes in turn
-abbrev pub frame : List ℕ → Option Row → Fields
-frame s none = refusedFields 3
-frame s (some row) =
+abbrev pub frame : ℕ → List ℕ → Option Row → Fields
+frame version s none = refusedFields 3
+frame version s (some row) =
     pick (ltb (length s) (row .shortest)) (refusedFields 1)
     (pick (ltb (row .longest) (length s)) (refusedFields 2)
-    (judged (row .code) (row .dataAt) (row .shortest) s))
+    (judged version (row .code) (row .dataAt) (row .shortest) s))
 
--- the numbers of any bytes
-unfoldable pub fields : List ℕ → Fields
-fields s = pick (eqb (length s) 0) (refusedFields 1) (frame s (find rows (byte s 0)))
+-- the numbers of any bytes, read under a version
+unfoldable pub fields : ℕ → List ℕ → Fields
+fields version s = pick (eqb (length s) 0) (refusedFields 1) (frame version s (find rows (byte s 0)))
 
 -- ---- the message that they state
 -- What reading gives: a refusal's number, or the message.
@@ -148,6 +149,6 @@ stated s f (some row) = message (row .stated s f)
 abbrev pub said : List ℕ → Fields → Reading
 said s f = pick (eqb (f .refusal) 0) (stated s f (find rows (f .code))) (refused (f .refusal))
 
-unfoldable pub read : List ℕ → Reading
+unfoldable pub read : ℕ → List ℕ → Reading
 unfolding fields
-read s = said s (fields s)
+read version s = said s (fields version s)

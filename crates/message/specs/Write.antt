@@ -13,34 +13,35 @@ use Rattle.message.specs.Message.{Message, memoryLoadTransfer, memoryLoa
 use Rattle.message.specs.Read.{ended}
 
 -- ---- the parts of a frame
--- A part of a frame: its bytes, whether its value is listed, and whether it fits its size.
+-- A part of a frame: its bytes, whether its value is listed under a version, and whether it fits its size.
 pub record Part : Type 0 where
   pub bytes : List ℕ
-  pub listed : Bool
+  pub listed : ℕ → Bool
   pub sized : Bool
 
 -- a byte
 abbrev pub byte : ℕ → Part
-byte b = record { bytes = b ∷ []; listed = true; sized = true }
+byte b = record { bytes = b ∷ []; listed = λ version. true; sized = true }
 
 -- a number of n bytes, low byte first
 abbrev pub word : ℕ → ℕ → Part
-word n x = record { bytes = low n x; listed = true; sized = ltb x (256 ^ n) }
+word n x = record { bytes = low n x; listed = λ version. true; sized = ltb x (256 ^ n) }
 
 -- data
 abbrev pub bytes : List ℕ → Part
-bytes xs = record { bytes = xs; listed = true; sized = true }
+bytes xs = record { bytes = xs; listed = λ version. true; sized = true }
 
 abbrev pub programType : ℕ → Part
-programType program = record { bytes = program ∷ []; listed = programListed program; sized = true }
+programType program = record { bytes = program ∷ []; listed = λ version. programListed program; sized = true }
 
 -- a form byte, then the id, which has the length that the form says
 abbrev pub softwareId : ℕ → List ℕ → Part
-softwareId form id = record { bytes = form ∷ id; listed = formListed form && eqb (length id) (idLength form); sized = true }
+softwareId form id = record { bytes = form ∷ id; listed = λ version. formListed form && eqb (length id) (idLength form); sized = true }
 
 -- entries without their end mark: with the mark and a transfer address behind them a reader accepts them
 abbrev pub entryList : List ℕ → Part
-entryList entries = record { bytes = entries; listed = eqb (ended (walk Kind (entries ++ (0 ∷ 0 ∷ 0 ∷ 0 ∷ 0 ∷ [])))) 0; sized = true }
+entryList entries =
+    record { bytes = entries; listed = λ version. eqb (ended (walk version Kind (entries ++ (0 ∷ 0 ∷ 0 ∷ 0 ∷ 0 ∷ [])))) 0; sized = true }
 
 -- a message's code, and the parts that follow it in the frame
 abbrev pub parts : Message → ℕ × List Part
@@ -70,9 +71,9 @@ unfoldable pub layout : Message → List ℕ
 unfolding joined
 layout m = joined (parts m .0 ∷ []) (parts m .1)
 
--- its program type, software form and entries are listed, and its id fits its form
-abbrev pub listed : Message → Bool
-listed m = foldr (λ part rest. part .listed && rest) true (parts m .1)
+-- its program type, software form and entries are listed under a version, and its id fits its form
+abbrev pub listed : ℕ → Message → Bool
+listed version m = foldr (λ part rest. part .listed version && rest) true (parts m .1)
 
 -- its numbers of several bytes fit their sizes
 abbrev pub Sized : Message → Type 0
@@ -80,9 +81,9 @@ Sized m = foldr (λ part rest. part .sized && rest) true (parts m .1) ≡ true
 
 -- ---- the writers
 -- a writer's answer and its buffer at exit: 4, then 2, then 9; else the frame, then what stood behind it
-unfoldable pub write : Message → List ℕ → Output
+unfoldable pub write : ℕ → Message → List ℕ → Output
 unfolding layout
-write m out = pick (listed m) (laid (layout m) out) (refuse 4 out)
+write version m out = pick (listed version m) (laid (layout m) out) (refuse 4 out)
 
 -- an end's frame in its reply buffer, which always has room for one: the frame, then what stood behind it
 abbrev pub sent : Message → List ℕ → Output

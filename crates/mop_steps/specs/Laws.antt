@@ -80,7 +80,7 @@ module _ (s : LoadSettings) (h : LoadSession) (file string reply : List ℕ) whe
 
   pub load-frame-seen : (frame : List ℕ) → Seen loadVerdict h tt reply (loadFrame s h file string frame reply)
   load-frame-seen frame =
-      let f = fields frame in
+      let f = fields (s .version) frame in
       called loadVerdict h tt reply (first (loadChecks.refusal s h file string reply ∷ f .refusal ∷ [])) (loads.does s file string (loadNext.react N h f))
       (by-cases P (eqb (h .verdict) 0) (λ v.
       by-cases P (eqb (f .code) 8) (λ _. by-cases P (eqb (h .waiting) 1 && eqb (f .program) 2) (λ _. goes (load.reached h 0)) (λ _. stays)) (λ _.
@@ -135,7 +135,7 @@ module _ (s : DumpSettings) (h : DumpSession) (buffer reply : List ℕ) where
 
   pub dump-frame-seen : (frame : List ℕ) → Seen dumpVerdict h buffer reply (dumpFrame s h frame buffer reply)
   dump-frame-seen frame =
-      let f = fields frame in
+      let f = fields (s .version) frame in
       called dumpVerdict h buffer reply (first (dumpChecks.refusal s h (length buffer) (length reply) ∷ f .refusal ∷ []))
       (dumps.onFrame s h frame buffer f) (reacts (part frame f) f)
 
@@ -160,7 +160,7 @@ module _ (s : LoopSettings) (h : LoopSession) (bytes reply : List ℕ) where
 
   pub loop-frame-seen : (frame : List ℕ) → Seen loopVerdict h tt reply (loopFrame s h bytes frame reply)
   loop-frame-seen frame =
-      let f = fields frame in
+      let f = fields (s .version) frame in
       let back = part frame f in
       called loopVerdict h tt reply (first (loop.refusal s h (length bytes) (length reply) ∷ f .refusal ∷ [])) (loop.onFrame s h bytes frame f)
       (by-cases L (eqb (h .verdict) 0) (λ v.
@@ -188,16 +188,19 @@ module _ (s : MachineSettings) (m : Machine) (memory reply : List ℕ) where
 
   pub machine-frame-seen : (frame : List ℕ) → Seen machineState m memory reply (machineFrame s m frame memory reply)
   machine-frame-seen frame =
-      called machineState m memory reply (first (machineChecks.refusal s m (length memory) (length reply) ∷ fields frame .refusal ∷ []))
-      (machineNext.react s m (fields frame) frame memory) (go _ (react-acted s m (fields frame) frame memory))
+      called machineState m memory reply (first (machineChecks.refusal s m (length memory) (length reply) ∷ f .refusal ∷ []))
+      (machineNext.react s m f frame memory) (go _ (react-acted s m f frame memory))
     where
-      go : (act : Act Machine (List ℕ)) → Acted s m (fields frame) frame memory act → M act
+      f : Fields
+      f = fields (s .version) frame
+
+      go : (act : Act Machine (List ℕ)) → Acted s m f frame memory act → M act
       go act ignored = idles
       go act (answered m′ number error l) = sent-seen machineState m memory reply m′ memory (requestLoad number error)
-      go act (loaded m′ number l e) = sent-seen machineState m memory reply m′ (laid (part frame (fields frame)) (fields frame .address) memory) (requestLoad number 0)
-      go act (dumped l) = sent-seen machineState m memory reply m memory (dumpData (fields frame .address) (bytesFrom memory (fields frame .address) (min (fields frame .count) (s .«reply_bytes»))))
+      go act (loaded m′ number bytes address l e) = sent-seen machineState m memory reply m′ (laid bytes address memory) (requestLoad number 0)
+      go act (dumped l) = sent-seen machineState m memory reply m memory (dumpData (f .address) (bytesFrom memory (f .address) (min (f .count) (s .«reply_bytes»))))
       go act (completed e) = λ _ _ q. absurd (omega arith)
-      go act (looped c e) = sent-seen machineState m memory reply m memory (loopedData (fields frame .receipt) (part frame (fields frame)))
+      go act (looped c e) = sent-seen machineState m memory reply m memory (loopedData (f .receipt) (part frame f))
 
   pub machine-timer-seen : Seen machineState m memory reply (machineTimer s m memory reply)
   machine-timer-seen =

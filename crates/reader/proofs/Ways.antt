@@ -26,16 +26,16 @@ right-by true over f h = absurd (omega arith)
 right-by false true f h = absurd (omega arith)
 right-by false false f h = (refl, refl)
 
-module _ (s : List ℕ) where
-  frame-refused : (o : Option Row) → (refusal (length s) o ≡ 0 → ⊥) → frame s o ≡ refusedFields (refusal (length s) o)
+module _ (version : ℕ) (s : List ℕ) where
+  frame-refused : (o : Option Row) → (refusal (length s) o ≡ 0 → ⊥) → frame version s o ≡ refusedFields (refusal (length s) o)
   frame-refused none h = refl
   frame-refused (some row) h =
-      refused-by (ltb (length s) (row .shortest)) (ltb (row .longest) (length s)) (judged (row .code) (row .dataAt) (row .shortest) s) h
+      refused-by (ltb (length s) (row .shortest)) (ltb (row .longest) (length s)) (judged version (row .code) (row .dataAt) (row .shortest) s) h
 
-  frame-right : (o : Option Row) → refusal (length s) o ≡ 0 → (frame s o ≡ byRow s o) × (atLeast o ≤ length s)
+  frame-right : (o : Option Row) → refusal (length s) o ≡ 0 → (frame version s o ≡ byRow version s o) × (atLeast o ≤ length s)
   frame-right none h = absurd (omega arith)
   frame-right (some row) h =
-      let r = right-by (ltb (length s) (row .shortest)) (ltb (row .longest) (length s)) (judged (row .code) (row .dataAt) (row .shortest) s) h in
+      let r = right-by (ltb (length s) (row .shortest)) (ltb (row .longest) (length s)) (judged version (row .code) (row .dataAt) (row .shortest) s) h in
       (r .0, ltb-false (length s) (row .shortest) (r .1))
 
   module _ (n : ℕ) (e : n ≡ refusal (length s) (find rows (byte s 0))) where
@@ -43,10 +43,10 @@ module _ (s : List ℕ) where
     long h = frame-right (find rows (byte s 0)) (sym e ∙ h) .1
 
     module _ (full : length s ≡ 0 → ⊥) where
-      pub refuses : (n ≡ 0 → ⊥) → refusedFields n ≡ fields s
+      pub refuses : (n ≡ 0 → ⊥) → refusedFields n ≡ fields version s
       unfolding fields
       refuses h = rw (ne-eqb (length s) 0 full, frame-refused (find rows (byte s 0)) (rw e at h), e)
 
-      pub right : n ≡ 0 → byRow s (find rows (byte s 0)) ≡ fields s
+      pub right : n ≡ 0 → byRow version s (find rows (byte s 0)) ≡ fields version s
       unfolding fields
       right h = rw (ne-eqb (length s) 0 full, frame-right (find rows (byte s 0)) (sym e ∙ h) .0)

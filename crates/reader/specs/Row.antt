@@ -10,6 +10,6 @@ abbrev pub atLeast : Option Row → ℕ
 atLeast none = 0
 atLeast (some row) = row .shortest
 
-abbrev pub byRow : List ℕ → Option Row → Fields
-byRow s none = refusedFields 3
-byRow s (some row) = judged (row .code) (row .dataAt) (row .shortest) s
+abbrev pub byRow : ℕ → List ℕ → Option Row → Fields
+byRow version s none = refusedFields 3
+byRow version s (some row) = judged version (row .code) (row .dataAt) (row .shortest) s

@@ -7,9 +7,9 @@ ghost use Rattle.message.specs.Read.{rows, find, numbers, fields};
 ghost use Rattle.reader.specs.Row.{atLeast, byRow};
 use message::Fields;
 
-// Reads a frame of any length and content.
-pub fn read(s: &[u8]) -> Fields
-    ensures { λ r. ⌜ r ≡ fields (now (s .entry)) ⌝ }
+// Reads a frame of any length and content under a version.
+pub fn read(version: u8, s: &[u8]) -> Fields
+    ensures { λ r. ⌜ r ≡ fields version (now (s .entry)) ⌝ }
 {
     if s.len() == 0 {
         return message::refused(1);
@@ -18,13 +18,13 @@ pub fn read(s: &[u8]) -> Fields
     if refusal != 0 {
         return message::refused(refusal);
     }
-    by_code(s[0], s)
+    by_code(version, s[0], s)
 }
 
 // A frame of this code, which has at least its least length. Each arm returns by itself: answers that meet are slower.
-fn by_code(code: u8, s: &[u8]) -> Fields
+fn by_code(version: u8, code: u8, s: &[u8]) -> Fields
     requires { ⌜ atLeast (find rows code) ≤ length (now s) ⌝ }
-    ensures { λ r. ⌜ r ≡ byRow (now (s .entry)) (find rows code) ⌝ }
+    ensures { λ r. ⌜ r ≡ byRow version (now (s .entry)) (find rows code) ⌝ }
 {
     match code {
         0 => return memory_load_transfer(s),
@@ -36,7 +36,7 @@ fn by_code(code: u8, s: &[u8]) -> Fields
         14 => return dump_data(s),
         1 => return dump_complete(),
         3 => return volunteer(),
-        20 => return reader_listed::parameters(s),
+        20 => return reader_listed::parameters(version, s),
         24 => return loop_data(s),
         26 => return looped_data(s),
         _ => return message::refused(3),

@@ -1,7 +1,7 @@
 // Reading the two frames whose fields must be listed, codes 8 and 20 (PROTOCOL 2, 'Messages').
 ghost use mathlib.Core.Path.{_≡_};
 ghost use mathlib.Core.Bool.{cond};
-ghost use Prim.Native.Nat.{_+_, _≤_};
+ghost use Prim.Native.Nat.{ℕ, _+_, _≤_};
 ghost use lib.ListN.{length};
 ghost use lib.Dec.{ltb};
 ghost use Rattle.message.specs.Message.{idLength};
@@ -11,7 +11,7 @@ use message::Fields;
 
 // Code 8, request program: 1 below its least length, else its bytes in turn.
 pub fn request_program(s: &[u8]) -> Fields
-    ensures { λ r. ⌜ r ≡ cond (ltb (length (now (s .entry))) 6) (refusedFields 1) (judged 8 6 6 (now (s .entry))) ⌝ }
+    ensures { λ r. ⌜ ((version : ℕ) → r ≡ cond (ltb (length (now (s .entry))) 6) (refusedFields 1) (judged version 8 6 6 (now (s .entry)))) ⌝ }
 {
     if s.len() < 6 {
         return message::refused(1);
@@ -53,14 +53,14 @@ fn with_id(s: &[u8], n: usize) -> Fields
     f
 }
 
-// Code 20, parameter load with transfer, alike.
-pub fn parameters(s: &[u8]) -> Fields
-    ensures { λ r. ⌜ r ≡ cond (ltb (length (now (s .entry))) 7) (refusedFields 1) (judged 20 2 7 (now (s .entry))) ⌝ }
+// Code 20, parameter load with transfer, alike, under a version.
+pub fn parameters(version: u8, s: &[u8]) -> Fields
+    ensures { λ r. ⌜ r ≡ cond (ltb (length (now (s .entry))) 7) (refusedFields 1) (judged version 20 2 7 (now (s .entry))) ⌝ }
 {
     if s.len() < 7 {
         return message::refused(1);
     }
-    let refusal = ended(entries::walk(s, 2));
+    let refusal = ended(entries::walk(version, s, 2));
     if refusal != 0 {
         return message::refused(refusal);
     }

@@ -44,7 +44,8 @@ empty-ring =
       wide = λ p h. ap length (getD-replicate 16 p place [] h) ∙ length-replicate {A = ℕ} 1500 0;
     }
 
-module _ (s : Setup) (file old : List ℕ) (ok : cutRefusal file (s .host .«segment_size») ≡ 0) (o : Octets file) (few : s .host .repeats ≤ 255)
+module _ (s : Setup) (file old : List ℕ) (ok : cutRefusal file (s .host .«segment_size») ≡ 0) (o : Octets file) (same : s .machine .version ≡ s .host .version)
+    (few : s .host .repeats ≤ 255)
     (mark : s .host .«with_parameters» ≤ 1) (fresh : machineChecks.refusal (s .machine) machine.requesting (length old) 1500 ≡ 0) where
   abbrev ends : Ends Session End ⊥
   ends = loadEnds (s .host) (s .machine) file []
@@ -53,7 +54,7 @@ module _ (s : Setup) (file old : List ℕ) (ok : cutRefusal file (s .host .«seg
   reached es = runWithin 16 ends (freshWorld (s .machine) old) es
 
   unrefused : (es : List (Event ⊥)) → Unrefused ends (reached es)
-  unrefused es = bounded-never-refused (s .host) (s .machine) file [] old ok o (no-string (s .host)) few mark fresh 16 es
+  unrefused es = bounded-never-refused (s .host) (s .machine) file [] old ok o (no-string (s .host)) same few mark fresh 16 es
 
   -- ---- letters in turn
   folds : (es : List (Event ⊥)) (r : Run) → Room r → (k : ℕ) → reached es ≡ world k r → (letters : List ℕ)

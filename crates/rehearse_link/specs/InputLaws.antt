@@ -1,7 +1,7 @@
 -- An accepted input has accepted settings, an accepted image of bytes, an accepted length of memory, and letters that are events.
 use Prim.Native.Nat.{ℕ, zero, suc, _+_, _*_, _≤_, _<_}
 use mathlib.Core.Path.{_≡_, refl}
-use mathlib.Core.Bool.{true, _&&_}
+use mathlib.Core.Bool.{true, false, _&&_}
 use mathlib.Core.List.{List, [], _∷_}
 use native.Mathlib.Omega.{arith}
 use lib.ListN.{length, take, drop}
@@ -22,6 +22,7 @@ use Rattle.step.specs.Step.{first}
 use Rattle.machine_record.specs.Record.{requesting}
 use Rattle.machine_checks.specs.Checks.{refusal}
 use Rattle.job.specs.Job.{setup, imageIn, bytesOf, Reading, withImage, reading}
+use Rattle.link_load.specs.Report.{laysBlock}
 use Rattle.rehearse.specs.Rehearse.{lettersOf, fileOf}
 use Rattle.rehearse_cases.specs.AcceptedLaws.{accepted}
 
@@ -62,6 +63,8 @@ pub record Ready (input : List ℕ) (r : Reading) : Type 0 where
   pub octets : Octets (fileOf r)
   pub few : r .job .setup .host .repeats ≤ 255
   pub mark : r .job .setup .host .«with_parameters» ≤ 1
+  pub versions : r .job .setup .machine .version ≡ r .job .setup .host .version
+  pub no-block : laysBlock (r .job .setup .host) (r .job .setup .machine) ≡ false
   pub settings : refusal (r .job .setup .machine) requesting (r .job .script .memory) 1500 ≡ 0
   pub letters : only events (lettersOf input (r .job)) ≡ true
 
@@ -87,6 +90,8 @@ ready input space =
           octets = laid-octets (hexadecimal (take (t .«image_length») (drop (t .«image_at») input))) space (spells (take (t .«image_length») (drop (t .«image_at») input)));
           few = a .repeats-most;
           mark = omega arith;
+          versions = refl;
+          no-block = refl;
           settings = accepts t (t .memory) (a .memory-most);
           letters = a .events-are;
         }

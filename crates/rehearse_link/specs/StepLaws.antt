@@ -207,10 +207,10 @@ module _ (s : Setup) (file : List ℕ) (narrow : s .host .«segment_size» ≤ w
           let f = first-host in
           let react : Fields → Act Machine (List ℕ) = λ x. machine-next.react (s .machine) m x f (r .memory) in
           let accepted = u .machineFrame f (frames (leave from-host) (r .hostPlaces)) b (leaves from-host (r .hostPlaces) z) room-left in
-          let bytes : length f ≡ 0 → ⊥ = λ k. accepted (no-bytes machineEnd machineRefusal f m (r .memory) b react k) in
+          let bytes : length f ≡ 0 → ⊥ = λ k. accepted (no-bytes machineEnd (s .machine .version) machineRefusal f m (r .memory) b react k) in
           let handed : machineHanded (s .machine) r ≡ machineFrame (s .machine) m f (r .memory) b = rw (ne-eqb (length f) 0 bytes) in
-          machine-acts (machineHanded (s .machine) r) (react (fields f)) (handed ∙ given machineEnd (first (machineRefusal ∷ fields f .refusal ∷ [])) m (r .memory) b (react (fields f)) accepted)
-          (machine-runs (s .machine) m (r .memory) (room .running) (fields f) f) q g e
+          machine-acts (machineHanded (s .machine) r) (react (fields (s .machine .version) f)) (handed ∙ given machineEnd (first (machineRefusal ∷ fields (s .machine .version) f .refusal ∷ [])) m (r .memory) b (react (fields (s .machine .version) f)) accepted)
+          (machine-runs (s .machine) m (r .memory) (room .running) (fields (s .machine .version) f) f) q g e
           (with-one z ∙ ap (λ (x : Outcome Machine (List ℕ)). machineTurn w (frames q (r .hostPlaces)) (turned machineEnd x)) (sym handed))
 
   to-host : (q : Queue) → Ring q (r .machinePlaces) → (from-machine .many ≡ 0 → q .many ≡ 0) → (e : Own) → (w .toHost ≡ [] → ownStep ends w e ≡ w)
@@ -232,10 +232,10 @@ module _ (s : Setup) (file : List ℕ) (narrow : s .host .«segment_size» ≤ w
           let f = first-machine in
           let react : Fields → Act Session Unit = λ x. load.does (s .host) file [] (load-next.react (load-checks.frames (s .host) file) h x) in
           let accepted = u .hostFrame f (frames (leave from-machine) (r .machinePlaces)) b (leaves from-machine (r .machinePlaces) z) room-left in
-          let bytes : length f ≡ 0 → ⊥ = λ k. accepted (no-bytes hostEnd hostRefusal f h tt b react k) in
+          let bytes : length f ≡ 0 → ⊥ = λ k. accepted (no-bytes hostEnd (s .host .version) hostRefusal f h tt b react k) in
           let handed : hostHanded (s .host) file r ≡ loadFrame (s .host) h file [] f b = rw (ne-eqb (length f) 0 bytes) in
-          host-acts (hostHanded (s .host) file r) (react (fields f)) (handed ∙ given hostEnd (first (hostRefusal ∷ fields f .refusal ∷ [])) h tt b (react (fields f)) accepted)
-          (host-short (s .host) file (load-next.react (load-checks.frames (s .host) file) h (fields f)) narrow) q g e
+          host-acts (hostHanded (s .host) file r) (react (fields (s .host .version) f)) (handed ∙ given hostEnd (first (hostRefusal ∷ fields (s .host .version) f .refusal ∷ [])) h tt b (react (fields (s .host .version) f)) accepted)
+          (host-short (s .host) file (load-next.react (load-checks.frames (s .host) file) h (fields (s .host .version) f)) narrow) q g e
           (with-one z ∙ ap (λ (x : Outcome Session Unit). hostTurn w (frames q (r .machinePlaces)) (turned hostEnd x)) (sym handed))
 
   -- ---- it leaves, or is kept

@@ -5,8 +5,10 @@
 --     last-line   the transcript's last line speaks of that world: verdict, host frames, transfer address and memory
 --     reported    the host's report is true of the machine's memory
 --     loaded      verdict 1: the machine holds the program, and no other byte of memory changed
+--     no-block    no parameter block is laid over it
 use Prim.Native.Nat.{ℕ}
 use mathlib.Core.Path.{_≡_, ap, sym, subst, _∙_}
+use mathlib.Core.Bool.{false}
 use mathlib.Core.List.{List, [], _++_, append-assoc}
 use lib.ListN.{length, replicate, length-replicate}
 use borrow.Author.Tests.{eq-eqb}
@@ -19,7 +21,7 @@ use Rattle.link.specs.Link.{World, Event, run}
 use Rattle.link.specs.Bounded.{runWithin, Alike}
 use Rattle.link.specs.Theorem.{bounded}
 use Rattle.link.specs.MachineEnd.{End}
-use Rattle.link_load.specs.Report.{Report, Loaded}
+use Rattle.link_load.specs.Report.{Report, laysBlock, Loaded}
 use Rattle.link_load.specs.Audit.{bounded-load, bounded-finished}
 use Rattle.rehearse_link.specs.Rehearsed.{asked, Accepted, settings, image, zeros, begun, ended, ends, freshEnds, events, worldAtEnd}
 use Rattle.rehearse_link.specs.TurnLaws.{no-string}
@@ -36,7 +38,7 @@ module _ (input : List ℕ) (a : Accepted input) where
       let size : length (zeros input) ≡ asked input .job .script .memory = length-replicate {A = ℕ} (asked input .job .script .memory) 0 in
       let fit : machineChecks.refusal (settings input .machine) machine.requesting (length (zeros input)) 1500 ≡ 0 =
       ap (λ (n : ℕ). machineChecks.refusal (settings input .machine) machine.requesting n 1500) size ∙ accepted .settings in
-      whole (settings input) (image input) (zeros input) (accepted .image) (accepted .octets) (accepted .few) (accepted .mark) fit places places (replicate 1500 0) empty-ring empty-ring
+      whole (settings input) (image input) (zeros input) (accepted .image) (accepted .octets) (accepted .versions) (accepted .few) (accepted .mark) fit places places (replicate 1500 0) empty-ring empty-ring
       (length-replicate {A = ℕ} 1500 0) (lettersOf input (asked input .job))
 
   pub one-each : length (events input) ≡ length (lettersOf input (asked input .job))
@@ -62,3 +64,6 @@ module _ (input : List ℕ) (a : Accepted input) where
   loaded e =
       subst (λ (w : World Session End). w .host .verdict ≡ 1 → Loaded (settings input .host) (settings input .machine) (image input) [] (zeros input) (w .machine)) linked
       (bounded-finished (settings input .host) (settings input .machine) (image input) [] (zeros input) (accepted .image) (accepted .octets) (no-string (settings input .host)) 16 (events input)) e
+
+  pub no-block : laysBlock (settings input .host) (settings input .machine) ≡ false
+  no-block = accepted .no-block

@@ -72,12 +72,12 @@ module _ {H B E : Type 0} (end : H → B → E) where
   acted a reply = told-as end 0 (a .end) (a .lent) reply a refl
 
   -- a call on no bytes is refused
-  pub no-bytes : (n : ℕ) (f : Frame) (h : H) (b : B) (reply : List ℕ) (does : Fields → Act H B) → length f ≡ 0 → turned end (frameCall n f h b reply does) ≡ refuses
+  pub no-bytes : (version n : ℕ) (f : Frame) (h : H) (b : B) (reply : List ℕ) (does : Fields → Act H B) → length f ≡ 0 → turned end (frameCall version n f h b reply does) ≡ refuses
   unfolding fields
-  no-bytes n f h b reply does e =
-      let one : fields f .refusal ≡ 1 = rw e in
-      let k : first (n ∷ fields f .refusal ∷ []) ≡ 0 → ⊥ = λ z. omega (arith, one, none _ _ (none _ _ z .1) .0) in
-      by-cases (λ (o : Outcome H B). turned end o ≡ refuses) (eqb (first (n ∷ fields f .refusal ∷ [])) 0) (λ t. absurd (k (eqb-true _ 0 t))) (λ t. rw t)
+  no-bytes version n f h b reply does e =
+      let one : fields version f .refusal ≡ 1 = rw e in
+      let k : first (n ∷ fields version f .refusal ∷ []) ≡ 0 → ⊥ = λ z. omega (arith, one, none _ _ (none _ _ z .1) .0) in
+      by-cases (λ (o : Outcome H B). turned end o ≡ refuses) (eqb (first (n ∷ fields version f .refusal ∷ [])) 0) (λ t. absurd (k (eqb-true _ 0 t))) (λ t. rw t)
 
 -- ---- what the machine does on a frame while it is neither Idle nor Offering
 unfoldable pub Runs : Act Machine (List ℕ) → Type 0
@@ -91,7 +91,7 @@ module _ (s : MachineSettings) (m : Machine) (memory : List ℕ) (l : 2 ≤ m .s
       go : (act : Act Machine (List ℕ)) → Acted s m f frame memory act → Runs act
       go act ignored = (l, tt)
       go act (answered m′ number error h) = (h l, omega arith)
-      go act (loaded m′ number h e) = (h, omega arith)
+      go act (loaded m′ number bytes address h e) = (h, omega arith)
       go act (dumped h) = absurd (omega arith)
       go act (completed e) = absurd (omega arith)
       go act (looped c e) = absurd (omega arith)

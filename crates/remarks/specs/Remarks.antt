@@ -4,6 +4,7 @@ use mathlib.Core.Bool.{Bool, true, false, _&&_, cond as pick}
 use mathlib.Core.List.{List, [], _∷_, _++_}
 use lib.ListN.{length, replicate}
 use lib.Dec.{eqb, ltb}
+use Rattle.version.specs.Version.{v30}
 use Rattle.message.specs.Read.{fields}
 use Rattle.text.specs.Text.{chars}
 use Rattle.hexadecimal.specs.Hexadecimal.{pairs}
@@ -51,7 +52,7 @@ silentRow letter before after =
 -- the host sends a frame again if it counts repeats
 abbrev pub sentWords : ℕ → Ends → List ℕ → Words
 sentWords letter after frame =
-    frameWords (fields frame) (is 4 (after .machine)) (after .machine .transfer) (hostSends letter && ltb 0 (after .session .repeats))
+    frameWords (fields v30 frame) (is 4 (after .machine)) (after .machine .transfer) (hostSends letter && ltb 0 (after .session .repeats))
 
 abbrev pub remark : ℕ → Ends → Ends → List ℕ → List ℕ
 remark letter before after frame =

@@ -61,7 +61,7 @@ fn sent_words(letter: u8, after: Ends, frame: &[u8]) -> Words
     ensures { λ r. ⌜ r ≡ sentWords letter after (now (frame .entry)) ⌝ }
 {
     let machine = after.machine;
-    let f = reader::read(frame);
+    let f = reader::read(version::V3_0, frame);
     if job::host_sends(letter) {
         return words::frame(
             f,

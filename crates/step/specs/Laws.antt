@@ -47,9 +47,9 @@ last n = by-cases (λ (k : ℕ). k ≡ n) (eqb n 0) (λ b. sym (eqb-true n 0 b))
 
 -- ---- calls
 -- what a writer gives of a listed message of at most 1,500 bytes is what is sent
-pub sent-by : (m : Message) (reply : List ℕ) {answer : Written} {buffer : List ℕ} → listed m ≡ true → length (layout m) ≤ 1500 → 1500 ≤ length reply
-    → Came (write m reply) answer buffer → Came (sent m reply) answer buffer
-sent-by m reply {answer} {buffer} l h r c = subst (λ (o : Output). Came o answer buffer) (write-sent m reply l h r) c
+pub sent-by : (version : ℕ) (m : Message) (reply : List ℕ) {answer : Written} {buffer : List ℕ} → listed version m ≡ true → length (layout m) ≤ 1500 → 1500 ≤ length reply
+    → Came (write version m reply) answer buffer → Came (sent m reply) answer buffer
+sent-by version m reply {answer} {buffer} l h r c = subst (λ (o : Output). Came o answer buffer) (write-sent version m reply l h r) c
 
 module _ {H B : Type 0} where
   -- an end that sends a message leaves what its writer gives
@@ -66,17 +66,17 @@ module _ {H B : Type 0} where
     call-accepted act e l = rw (eq-eqb n 0 e) l
 
   -- a call on a frame: refused before it is read, refused because of it, or accepted
-  module _ (n : ℕ) (frame : List ℕ) (end : H) (lent : B) (reply : List ℕ) (react : Fields → Act H B) where
-    pub frame-call-refused : (n ≡ 0 → ⊥) → Leaves (frameCall n frame end lent reply react) end (refused n) lent reply
-    frame-call-refused e = rw (decided n (fields frame .refusal ∷ []) e, ne-eqb n 0 e) (refl, refl, refl, refl)
+  module _ (version n : ℕ) (frame : List ℕ) (end : H) (lent : B) (reply : List ℕ) (react : Fields → Act H B) where
+    pub frame-call-refused : (n ≡ 0 → ⊥) → Leaves (frameCall version n frame end lent reply react) end (refused n) lent reply
+    frame-call-refused e = rw (decided n (fields version frame .refusal ∷ []) e, ne-eqb n 0 e) (refl, refl, refl, refl)
 
     module _ (z : n ≡ 0) where
-      own : first (n ∷ fields frame .refusal ∷ []) ≡ fields frame .refusal
-      own = passed n (fields frame .refusal ∷ []) z ∙ last (fields frame .refusal)
+      own : first (n ∷ fields version frame .refusal ∷ []) ≡ fields version frame .refusal
+      own = passed n (fields version frame .refusal ∷ []) z ∙ last (fields version frame .refusal)
 
-      pub frame-refused : (fields frame .refusal ≡ 0 → ⊥) → Leaves (frameCall n frame end lent reply react) end (refused (fields frame .refusal)) lent reply
-      frame-refused e = rw (own, ne-eqb (fields frame .refusal) 0 e) (refl, refl, refl, refl)
+      pub frame-refused : (fields version frame .refusal ≡ 0 → ⊥) → Leaves (frameCall version n frame end lent reply react) end (refused (fields version frame .refusal)) lent reply
+      frame-refused e = rw (own, ne-eqb (fields version frame .refusal) 0 e) (refl, refl, refl, refl)
 
-      pub frame-accepted : {end′ : H} {answer : Written} {lent′ : B} {reply′ : List ℕ} → fields frame .refusal ≡ 0
-          → Leaves (gives (react (fields frame)) reply) end′ answer lent′ reply′ → Leaves (frameCall n frame end lent reply react) end′ answer lent′ reply′
-      frame-accepted e l = rw (own, eq-eqb (fields frame .refusal) 0 e) l
+      pub frame-accepted : {end′ : H} {answer : Written} {lent′ : B} {reply′ : List ℕ} → fields version frame .refusal ≡ 0
+          → Leaves (gives (react (fields version frame)) reply) end′ answer lent′ reply′ → Leaves (frameCall version n frame end lent reply react) end′ answer lent′ reply′
+      frame-accepted e l = rw (own, eq-eqb (fields version frame .refusal) 0 e) l

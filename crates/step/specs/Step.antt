@@ -65,9 +65,9 @@ module _ {H B : Type 0} where
   abbrev pub call : ℕ → H → B → List ℕ → Act H B → Outcome H B
   call n end lent reply act = pick (eqb n 0) (gives act reply) (refuses n end lent reply)
 
-  -- a call on a frame: its refusal, then the frame's own, or what the end does with the frame's numbers
-  abbrev pub frameCall : ℕ → List ℕ → H → B → List ℕ → (Fields → Act H B) → Outcome H B
-  frameCall n frame end lent reply react = call (first (n ∷ fields frame .refusal ∷ [])) end lent reply (react (fields frame))
+  -- a call on a frame, read under a version: its refusal, then the frame's own, or what the end does with the frame's numbers
+  abbrev pub frameCall : ℕ → ℕ → List ℕ → H → B → List ℕ → (Fields → Act H B) → Outcome H B
+  frameCall version n frame end lent reply react = call (first (n ∷ fields version frame .refusal ∷ [])) end lent reply (react (fields version frame))
 
   -- what came out is what the definition leaves
   abbrev pub Leaves : Outcome H B → H → Written → B → List ℕ → Type 0

@@ -36,7 +36,7 @@ pub fn allowed(window: Window) -> bool
 }
 
 // The window touches n bytes from an address on: the later of the two starts lies in both.
-pub fn touching(window: Window, address: u32, n: usize) -> bool
+pub fn touching(window: Window, address: usize, n: usize) -> bool
     ensures { λ r. ⌜ r ≡ touches window address n ⌝ }
 {
     if window.length < 1 {

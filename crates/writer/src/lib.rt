@@ -1,6 +1,7 @@
 // Writing frames (PROTOCOL 2, 'Messages'): a writer for each code but 8 and 20, into a lent buffer.
 // Each answers the frame's length, or 2, then 9; the buffer behind the frame stays, and a refusal leaves it all.
 ghost use mathlib.Core.Path.{_≡_};
+ghost use Prim.Native.Nat.{ℕ};
 ghost use mathlib.Core.List.{[], _∷_, _++_};
 ghost use Rattle.octets.specs.Number.{low};
 ghost use Rattle.buffer.specs.Lay.{Came, laid};
@@ -50,7 +51,7 @@ pub fn memory_load_transfer(
     transfer: u32,
     out: &mut [u8],
 ) -> Written
-    ensures { λ r. ⌜ Came (write (memoryLoadTransfer number address (now (bytes .entry)) transfer) (now (out .entry))) r (now (out .exit)) ⌝ }
+    ensures { λ r. ⌜ ((version : ℕ) → Came (write version (memoryLoadTransfer number address (now (bytes .entry)) transfer) (now (out .entry))) r (now (out .exit))) ⌝ }
 {
     let head = numbered(0, number, address);
     let tail = octets::low32(transfer);
@@ -59,7 +60,7 @@ pub fn memory_load_transfer(
 
 // Code 2, memory load.
 pub fn memory_load(number: u8, address: u32, bytes: &[u8], out: &mut [u8]) -> Written
-    ensures { λ r. ⌜ Came (write (memoryLoad number address (now (bytes .entry))) (now (out .entry))) r (now (out .exit)) ⌝ }
+    ensures { λ r. ⌜ ((version : ℕ) → Came (write version (memoryLoad number address (now (bytes .entry))) (now (out .entry))) r (now (out .exit))) ⌝ }
 {
     let head = numbered(2, number, address);
     buffer::lay(&head, bytes, out)
@@ -67,7 +68,7 @@ pub fn memory_load(number: u8, address: u32, bytes: &[u8], out: &mut [u8]) -> Wr
 
 // Code 10, request memory load.
 pub fn request_load(number: u8, error: u8, out: &mut [u8]) -> Written
-    ensures { λ r. ⌜ Came (write (requestLoad number error) (now (out .entry))) r (now (out .exit)) ⌝ }
+    ensures { λ r. ⌜ ((version : ℕ) → Came (write version (requestLoad number error) (now (out .entry))) r (now (out .exit))) ⌝ }
 {
     let head = [10];
     let body = [number, error];
@@ -76,7 +77,7 @@ pub fn request_load(number: u8, error: u8, out: &mut [u8]) -> Written
 
 // Code 4, request memory dump.
 pub fn request_dump(address: u32, count: u16, out: &mut [u8]) -> Written
-    ensures { λ r. ⌜ Came (write (requestDump address count) (now (out .entry))) r (now (out .exit)) ⌝ }
+    ensures { λ r. ⌜ ((version : ℕ) → Came (write version (requestDump address count) (now (out .entry))) r (now (out .exit))) ⌝ }
 {
     let head = addressed(4, address);
     let body = octets::low16(count);
@@ -92,7 +93,7 @@ pub fn request_dump_service(
     info: &[u8],
     out: &mut [u8],
 ) -> Written
-    ensures { λ r. ⌜ Came (write (requestDumpService device format size compatibility (now (info .entry))) (now (out .entry))) r (now (out .exit)) ⌝ }
+    ensures { λ r. ⌜ ((version : ℕ) → Came (write version (requestDumpService device format size compatibility (now (info .entry))) (now (out .entry))) r (now (out .exit))) ⌝ }
 {
     let n = octets::low32(size);
     let head = [12, device, format, n[0], n[1], n[2], n[3], compatibility];
@@ -101,7 +102,7 @@ pub fn request_dump_service(
 
 // Code 14, memory dump data.
 pub fn dump_data(address: u32, bytes: &[u8], out: &mut [u8]) -> Written
-    ensures { λ r. ⌜ Came (write (dumpData address (now (bytes .entry))) (now (out .entry))) r (now (out .exit)) ⌝ }
+    ensures { λ r. ⌜ ((version : ℕ) → Came (write version (dumpData address (now (bytes .entry))) (now (out .entry))) r (now (out .exit))) ⌝ }
 {
     let head = addressed(14, address);
     buffer::lay(&head, bytes, out)
@@ -109,28 +110,28 @@ pub fn dump_data(address: u32, bytes: &[u8], out: &mut [u8]) -> Written
 
 // Code 1, dump complete.
 pub fn dump_complete(out: &mut [u8]) -> Written
-    ensures { λ r. ⌜ Came (write dumpComplete (now (out .entry))) r (now (out .exit)) ⌝ }
+    ensures { λ r. ⌜ ((version : ℕ) → Came (write version dumpComplete (now (out .entry))) r (now (out .exit))) ⌝ }
 {
     alone(1, out)
 }
 
 // Code 3, assistance volunteer.
 pub fn volunteer(out: &mut [u8]) -> Written
-    ensures { λ r. ⌜ Came (write volunteer (now (out .entry))) r (now (out .exit)) ⌝ }
+    ensures { λ r. ⌜ ((version : ℕ) → Came (write version volunteer (now (out .entry))) r (now (out .exit))) ⌝ }
 {
     alone(3, out)
 }
 
 // Code 24, loop data.
 pub fn loop_data(receipt: u16, bytes: &[u8], out: &mut [u8]) -> Written
-    ensures { λ r. ⌜ Came (write (loopData receipt (now (bytes .entry))) (now (out .entry))) r (now (out .exit)) ⌝ }
+    ensures { λ r. ⌜ ((version : ℕ) → Came (write version (loopData receipt (now (bytes .entry))) (now (out .entry))) r (now (out .exit))) ⌝ }
 {
     looping(24, receipt, bytes, out)
 }
 
 // Code 26, looped data.
 pub fn looped_data(receipt: u16, bytes: &[u8], out: &mut [u8]) -> Written
-    ensures { λ r. ⌜ Came (write (loopedData receipt (now (bytes .entry))) (now (out .entry))) r (now (out .exit)) ⌝ }
+    ensures { λ r. ⌜ ((version : ℕ) → Came (write version (loopedData receipt (now (bytes .entry))) (now (out .entry))) r (now (out .exit))) ⌝ }
 {
     looping(26, receipt, bytes, out)
 }

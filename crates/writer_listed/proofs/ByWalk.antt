@@ -23,5 +23,5 @@ by-bool : (p : Place) (b : Bool) → (b ≡ true → p ≡ Kind) → (p ≡ Kind
 by-bool p true f g = rw (f refl)
 by-bool p false f g = elsewhere p (λ k. true≢false (sym (g k)))
 
-pub listed-as : (e : List ℕ) → entryList e .listed ≡ whole (walk Kind e)
-listed-as e = by-bool (walk Kind e) (entryList e .listed) (listed-whole e) (whole-listed e)
+pub listed-as : (version : ℕ) (e : List ℕ) → entryList e .listed version ≡ whole (walk version Kind e)
+listed-as version e = by-bool (walk version Kind e) (entryList e .listed version) (listed-whole version e) (whole-listed version e)

@@ -1,5 +1,6 @@
 // Writing the two frames whose fields must be listed, codes 8 and 20 (PROTOCOL 2, 'Messages'): 4, then 2, then 9, as the other writers.
 ghost use mathlib.Core.Path.{_≡_};
+ghost use Prim.Native.Nat.{ℕ};
 ghost use Rattle.buffer.specs.Lay.{Came};
 ghost use mathlib.Core.Bool.{_&&_};
 ghost use lib.Dec.{eqb};
@@ -20,7 +21,7 @@ pub fn request_program(
     info: &[u8],
     out: &mut [u8],
 ) -> Written
-    ensures { λ r. ⌜ Came (write (requestProgram device format program form (now (id .entry)) processor (now (info .entry))) (now (out .entry))) r (now (out .exit)) ⌝ }
+    ensures { λ r. ⌜ ((version : ℕ) → Came (write version (requestProgram device format program form (now (id .entry)) processor (now (info .entry))) (now (out .entry))) r (now (out .exit))) ⌝ }
 {
     if 2 < program {
         return Written {
@@ -52,11 +53,11 @@ fn id_fits(form: u8, n: usize) -> bool
     n == 0
 }
 
-// Code 20, parameter load with transfer. The entries come without their end mark.
-pub fn parameters(number: u8, entries: &[u8], transfer: u32, out: &mut [u8]) -> Written
-    ensures { λ r. ⌜ Came (write (parameters number (now (entries .entry)) transfer) (now (out .entry))) r (now (out .exit)) ⌝ }
+// Code 20, parameter load with transfer, under a version. The entries come without their end mark.
+pub fn parameters(version: u8, number: u8, entries: &[u8], transfer: u32, out: &mut [u8]) -> Written
+    ensures { λ r. ⌜ Came (write version (parameters number (now (entries .entry)) transfer) (now (out .entry))) r (now (out .exit)) ⌝ }
 {
-    if !listed(entries) {
+    if !listed(version, entries) {
         return Written {
             length: 0,
             refusal: 4,
@@ -68,11 +69,11 @@ pub fn parameters(number: u8, entries: &[u8], transfer: u32, out: &mut [u8]) -> 
     buffer::lay_three(&head, entries, &tail, out)
 }
 
-// Entries without their end mark are whole and of the list.
-pub fn listed(entries: &[u8]) -> bool
-    ensures { λ r. ⌜ r ≡ entryList (now (entries .entry)) .listed ⌝ }
+// Entries without their end mark are whole and of the version's list.
+pub fn listed(version: u8, entries: &[u8]) -> bool
+    ensures { λ r. ⌜ r ≡ entryList (now (entries .entry)) .listed version ⌝ }
 {
-    whole(entries::walk(entries, 0))
+    whole(entries::walk(version, entries, 0))
 }
 
 // Entries may end at this place.

@@ -7,6 +7,7 @@ use super::{Case, End, Event, Outcome, ROOM, frames, in_c};
 use crate::Compare;
 use crate::beyond::{BEYOND, Zeros};
 use crate::images;
+use crate::make::{V2_1, V3_0, VERSIONS};
 use crate::tally::Hex;
 use mop_proved::{DumpSettings, LoadSettings, MachineSettings, Step, Written};
 
@@ -34,7 +35,7 @@ impl Compare {
         let file = images::smallest();
         bytes[0] = 24;
         let event = Event::Frame(Hex(&bytes[..BEYOND + 4]));
-        self.refused(&machine(), event, 2);
+        self.refused(&machine(V3_0), event, 2);
         self.refused(&loading(&file), event, 2);
         bytes[0] = 0;
 
@@ -82,8 +83,10 @@ impl Compare {
         let frame = frames::load(0, 0, &[1, 2], None);
         for length in [BEYOND, BEYOND + 8] {
             let memory = &mut bytes[..length];
-            for event in [Event::Start, Event::Timer, Event::Frame(Hex(&frame))] {
-                self.in_place(&machine(), Default::default(), event, memory, 0, 10);
+            for end in VERSIONS.map(machine) {
+                for event in [Event::Start, Event::Timer, Event::Frame(Hex(&frame))] {
+                    self.in_place(&end, Default::default(), event, memory, 0, 10);
+                }
             }
         }
     }
@@ -97,6 +100,7 @@ impl Compare {
                 address: 0,
                 request_bytes: 1495,
                 repeats: 255,
+                version: V3_0,
             },
         };
         let offer = [12, 0, 1, 0, 0, 0, 1, 0];
@@ -181,12 +185,12 @@ impl Compare {
     /// Reply buffers that are long enough only in all of their bits.
     fn reply_beyond(&mut self, bytes: &mut [u8]) {
         let reply = &mut bytes[..BEYOND + 3];
-        let seen = machine().proved(state(OFFERING), Event::Timer, &mut [0; 7], reply);
+        let seen = machine(V2_1).proved(state(OFFERING), Event::Timer, &mut [0; 71], reply);
         let wanted = Written {
             length: 8,
             refusal: 0,
         };
-        let frame = [12, 0, 1, 7, 0, 0, 0, 0, 0];
+        let frame = [12, 0, 1, 71, 0, 0, 0, 0, 0];
         if seen.answer != wanted || reply[..9] != frame {
             let what = format_args!("machine timer, reply buffer above 32 bits");
             self.report(what, Hex(&reply[..9]), seen, wanted);
@@ -211,10 +215,11 @@ fn excerpt<R>(
     (step, reply)
 }
 
-fn machine() -> Machine {
+fn machine(version: u8) -> Machine {
     Machine {
         settings: MachineSettings {
             reply_bytes: 9,
+            version,
             ..Default::default()
         },
         purpose: Purpose::Load,
@@ -227,6 +232,7 @@ fn loading(file: &[u8]) -> Load<'_> {
             segment_size: 1,
             repeats: 1,
             with_parameters: 0,
+            version: V3_0,
         },
         file: Hex(file),
         parameters: Hex(&[]),

@@ -2,10 +2,11 @@
 
 use super::{Case, End, Event, first, frames, room_refusal};
 use crate::Compare;
-use crate::make;
+use crate::make::{self, NO_VERSIONS, V3_0, VERSIONS};
 use crate::tally::Hex;
 use mop_plain::dump::{self, Progress, Session};
 use mop_plain::step::Sent;
+use mop_plain::version::Version;
 use mop_proved::{DumpSettings, Step, Written};
 
 pub const ADDRESS_END: u64 = 1 << 32;
@@ -35,6 +36,7 @@ impl End for Dump {
             address: self.settings.address,
             most: self.settings.request_bytes,
             repeats: self.settings.repeats,
+            version: Version::from_number(self.settings.version)?,
         };
         let mut session = Session::from_numbers(
             record.waiting,
@@ -94,6 +96,10 @@ impl End for Dump {
     fn verdict(record: &Self::Record) -> u8 {
         record.verdict
     }
+
+    fn version(&self) -> u8 {
+        self.settings.version
+    }
 }
 
 fn numbers(session: Session) -> mop_proved::Dump {
@@ -121,23 +127,18 @@ fn numbers(session: Session) -> mop_proved::Dump {
 
 impl Compare {
     pub fn dump_steps(&mut self) {
-        self.dump_set_cases();
+        for version in VERSIONS {
+            self.dump_set_cases(version);
+        }
         self.dump_rooms();
         for _ in 0..60_000 {
             self.any_dump_step();
         }
     }
 
-    /// What the protocol says outright of five bytes from 7 on, three at a time.
-    fn dump_set_cases(&mut self) {
-        let end = Dump {
-            settings: DumpSettings {
-                length: 5,
-                address: 7,
-                request_bytes: 3,
-                repeats: 1,
-            },
-        };
+    /// What the protocol says outright of these five bytes.
+    fn dump_set_cases(&mut self, version: u8) {
+        let end = five_bytes(version);
         let waiting = numbers(Session::Waiting);
         let with = |verdict, filled, replies, repeats, sent| mop_proved::Dump {
             filled,
@@ -195,6 +196,7 @@ impl Compare {
                 address: address as u32,
                 request_bytes: self.random.pick(&[1, small, small, 1494, 1495]),
                 repeats: self.random.pick(&[0, 0, 1, 2, 254, 255, any]),
+                version: self.any_version(),
             },
         }
     }
@@ -250,7 +252,7 @@ impl Compare {
             record,
             event,
             room,
-            wanted: first(&[early, room_refusal(room), event.refusal()]),
+            wanted: first(&[early, room_refusal(room), event.refusal(&end)]),
         };
         self.step(case, &mut buffer);
     }
@@ -258,7 +260,8 @@ impl Compare {
     /// Breaks a setting, the range or the buffer's length.
     fn dump_setting_fault(&mut self, settings: &mut DumpSettings, buffer: &mut Vec<u8>) {
         let length = settings.length;
-        match self.random.below(8) {
+        match self.random.below(9) {
+            8 => settings.version = self.random.pick(&NO_VERSIONS),
             0 => settings.request_bytes = self.random.pick(&[0, 1496, 65_537, u32::MAX]),
             1 => settings.repeats = self.random.pick(&[256, 65_536, u32::MAX]),
             2 => {
@@ -320,7 +323,7 @@ impl Compare {
     /// A frame that may matter to a dump that has so many bytes.
     fn frame_for_dump(&mut self, settings: DumpSettings, filled: u64) -> Vec<u8> {
         let frame = match self.random.below(8) {
-            0 => make::frame(&mut self.random, 12),
+            0 => make::frame(&mut self.random, V3_0, 12),
             1..=6 => self.any_dump_data(settings, filled),
             _ => self.any_good_frame(),
         };
@@ -355,6 +358,7 @@ impl Compare {
                 address: 7,
                 request_bytes: 30,
                 repeats: 1,
+                version: self.any_version(),
             },
         };
         let running = mop_proved::Dump {
@@ -375,6 +379,19 @@ impl Compare {
             }
             self.rooms(&end, record, Event::Timer, &buffer);
         }
+    }
+}
+
+/// A dump of five bytes from 7 on, three at a time.
+pub fn five_bytes(version: u8) -> Dump {
+    Dump {
+        settings: DumpSettings {
+            length: 5,
+            address: 7,
+            request_bytes: 3,
+            repeats: 1,
+            version,
+        },
     }
 }
 

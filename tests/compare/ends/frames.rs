@@ -1,7 +1,7 @@
 //! The frames that the ends exchange, byte by byte, and spoilt ones.
 
 use crate::Compare;
-use crate::make;
+use crate::make::{self, V3_0};
 use crate::tally::CODES;
 
 /// Code 0 if there is a transfer address, else code 2.
@@ -48,15 +48,16 @@ pub fn dump_data(address: u32, data: &[u8]) -> Vec<u8> {
 impl Compare {
     /// Code 8, mostly of type 2.
     pub fn any_request(&mut self) -> Vec<u8> {
-        let mut frame = make::frame(&mut self.random, 8);
+        let mut frame = make::frame(&mut self.random, V3_0, 8);
         frame[3] = self.random.pick(&[0, 1, 2, 2, 2, 2]);
         frame
     }
 
-    /// A good frame of any code.
+    /// A good frame of any code and of either version.
     pub fn any_good_frame(&mut self) -> Vec<u8> {
         let listed = self.random.range(0, CODES.len() - 1);
-        make::frame(&mut self.random, CODES[listed].code)
+        let version = self.any_version();
+        make::frame(&mut self.random, version, CODES[listed].code)
     }
 
     /// The frame, or now and then one that is spoilt.

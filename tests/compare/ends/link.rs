@@ -8,6 +8,7 @@ use std::collections::VecDeque;
 use super::machine::Machine;
 use super::{Case, End, Event, ROOM, first, room_refusal};
 use crate::Compare;
+use crate::make::V2_1;
 use crate::random::Random;
 use crate::tally::Hex;
 
@@ -185,8 +186,11 @@ impl<'a, H: End> Link<'a, H> {
 
 fn aside<'a, E: End>(end: &'a E, record: E::Record, event: Event<'a>, room: usize) -> Case<'a, E> {
     Case {
-        kind: "on the side of runs",
-        wanted: first(&[room_refusal(room), event.refusal()]),
+        kind: match end.version() {
+            V2_1 => "2.1: on the side of runs",
+            _ => "on the side of runs",
+        },
+        wanted: first(&[room_refusal(room), event.refusal(end)]),
         ..in_run(end, record, event, room)
     }
 }
@@ -194,7 +198,10 @@ fn aside<'a, E: End>(end: &'a E, record: E::Record, event: Event<'a>, room: usiz
 /// Whatever the ends send each other is accepted.
 fn in_run<'a, E: End>(end: &'a E, record: E::Record, event: Event<'a>, room: usize) -> Case<'a, E> {
     Case {
-        kind: "in runs over the link",
+        kind: match end.version() {
+            V2_1 => "2.1: in runs over the link",
+            _ => "in runs over the link",
+        },
         end,
         record,
         event,

@@ -3,10 +3,12 @@
 use super::{Case, End, Event, ROOM, first, frames, room_refusal};
 use crate::Compare;
 use crate::images::{self, Good, Region};
+use crate::make::{NO_VERSIONS, V3_0};
 use crate::tally::Hex;
 use mop_plain::image;
 use mop_plain::load::{self, Progress, Session};
 use mop_plain::step::Sent;
+use mop_plain::version::Version;
 use mop_proved::{LoadSettings, Step, Written};
 
 const FILE_MOST: usize = 16_777_216;
@@ -46,6 +48,7 @@ impl End for Load<'_> {
             segment_size: self.settings.segment_size,
             repeats: self.settings.repeats,
             parameters: load::given(self.settings.with_parameters, string)?,
+            version: Version::from_number(self.settings.version)?,
         };
         let mut session = Session::from_numbers(
             record.waiting,
@@ -105,6 +108,10 @@ impl End for Load<'_> {
     fn verdict(record: &Self::Record) -> u8 {
         record.verdict
     }
+
+    fn version(&self) -> u8 {
+        self.settings.version
+    }
 }
 
 pub fn numbers(session: Session) -> mop_proved::Load {
@@ -142,6 +149,7 @@ pub const EXAMPLE_SETTINGS: LoadSettings = LoadSettings {
     segment_size: 2,
     repeats: 1,
     with_parameters: 0,
+    version: V3_0,
 };
 
 /// Not over, c frames answered.
@@ -220,8 +228,8 @@ impl Compare {
         }
     }
 
-    /// Good settings; the string is given or not.
-    pub fn good_load<'a>(&mut self, file: &'a [u8], string: &'a [u8]) -> Load<'a> {
+    /// Good settings; the string, of this version, is given or not.
+    fn good_load<'a>(&mut self, version: u8, file: &'a [u8], string: &'a [u8]) -> Load<'a> {
         let any = self.random.range(1, 1490) as u32;
         let small = self.random.range(1, 40) as u32;
         let segment_size = self.random.pick(&[1, 2, small, 1490, any]);
@@ -231,6 +239,7 @@ impl Compare {
                 segment_size,
                 repeats: self.random.pick(&[0, 0, 1, 2, 254, 255, any]),
                 with_parameters: self.random.pick(&[0, 1]),
+                version,
             },
             file: Hex(file),
             parameters: Hex(string),
@@ -268,8 +277,9 @@ impl Compare {
     }
 
     fn any_load_step(&mut self, kind: &'static str, file: &[u8]) {
-        let (string, refusal) = self.any_string();
-        let mut end = self.good_load(file, &string);
+        let version = self.any_version();
+        let (string, refusal) = self.any_string(version);
+        let mut end = self.good_load(version, file, &string);
         let image = image::check(file, end.settings.segment_size);
         let frames = end.frames(image.as_ref().map_or(9, image::Image::segments));
         let bad_string = refusal * end.settings.with_parameters;
@@ -302,7 +312,7 @@ impl Compare {
                 image.err().unwrap_or(0),
                 late,
                 bad_string,
-                event.refusal(),
+                event.refusal(&end),
             ]),
         };
         self.step(case, &mut []);
@@ -327,7 +337,7 @@ impl Compare {
     /// Breaks a rule that is judged before the reply buffer and the image.
     fn early_load_fault(&mut self, settings: &mut LoadSettings, record: &mut mop_proved::Load) {
         let high = self.random.pick(&[1, 255, 1 << 16]);
-        match self.random.below(10) {
+        match self.random.below(11) {
             0 => settings.segment_size = self.random.pick(&[0, 1491, 65_537, u32::MAX]),
             1 => settings.repeats = self.random.pick(&[256, 257, 65_536, u32::MAX]),
             2 => record.repeats = settings.repeats + high,
@@ -337,6 +347,7 @@ impl Compare {
             6 => (record.waiting, record.position) = (1, self.random.pick(&[1, 1 << 32])),
             7 => (record.waiting, record.sent) = (1, self.random.pick(&[1, 1 << 32])),
             8 => settings.with_parameters = self.number_from(2),
+            9 => settings.version = self.random.pick(&NO_VERSIONS),
             _ => {
                 *record = numbers(Session::Waiting);
                 match self.random.once_in(2) {
@@ -386,9 +397,10 @@ impl Compare {
 
     fn load_rooms(&mut self) {
         let file = Good::new(&mut self.random, 3).file();
-        let string = self.any_entries().concat();
         for mark in [0, 1] {
-            let mut end = self.good_load(&file, &string);
+            let version = self.any_version();
+            let string = self.any_entries(version).concat();
+            let mut end = self.good_load(version, &file, &string);
             end.settings.with_parameters = mark;
             let image = image::check(&file, end.settings.segment_size);
             let frames = end.frames(image.map_or(0, |image| image.segments()));
@@ -406,12 +418,14 @@ impl Compare {
     /// Every number and many errors, at positions about the numbers' wrap.
     fn load_answers(&mut self) {
         let file = images::shared(&self.random.bytes(600), 1, 5);
-        let string = self.any_entries().concat();
+        let version = self.any_version();
+        let string = self.any_entries(version).concat();
         let mut end = Load {
             settings: LoadSettings {
                 segment_size: 1,
                 repeats: 3,
                 with_parameters: 0,
+                version,
             },
             file: Hex(&file),
             parameters: Hex(&string),

@@ -5,6 +5,7 @@ use super::load::{EXAMPLE_SETTINGS, Load, ended, example, numbers, running};
 use super::strings::{Judged, set_strings};
 use super::{Case, Event, ROOM, first, frames, room_refusal};
 use crate::images::{self, Region};
+use crate::make::{V2_1, VERSIONS};
 use crate::tally::Hex;
 use crate::{Compare, Wanted};
 use mop_plain::frame::Frame;
@@ -27,24 +28,30 @@ const FRAMES: [(&[u8], u8); 10] = [
     (&[8, 0, 1, 3, 0, 0], 4),
 ];
 
+/// A code 20 with a name of seven bytes, which 2.1 does not have.
+const LONG_NAME: [u8; 16] = [20, 0, 3, 7, 1, 2, 3, 4, 5, 6, 7, 0, 1, 2, 3, 4];
+
 /// Settings and records that break a rule before all else is judged.
 type Early = fn(&mut LoadSettings, &mut mop_proved::Load);
-const EARLY: [(Early, u8); 8] = [
+const EARLY: [(Early, u8); 10] = [
     (|_, _| (), 0),
     (|settings, _| settings.segment_size = 0, 10),
     (|settings, _| settings.repeats = 256, 10),
     (|settings, _| settings.with_parameters = 2, 10),
     (|settings, _| settings.with_parameters = 255, 10),
+    (|settings, _| settings.version = 0, 10),
+    (|settings, _| settings.version = 22, 10),
     (|_, record| record.verdict = 5, 10),
     (|_, record| record.repeats = 2, 10),
     (|_, record| record.waiting = 2, 10),
 ];
 
-/// The rehearsal's example, with this mark and string: 2 segments.
-fn example_with<'a>(file: &'a [u8], mark: u8, string: &'a [u8]) -> Load<'a> {
+/// The rehearsal's example, with this version, mark and string: 2 segments.
+pub fn example_with<'a>(version: u8, file: &'a [u8], mark: u8, string: &'a [u8]) -> Load<'a> {
     Load {
         settings: LoadSettings {
             with_parameters: mark,
+            version,
             ..EXAMPLE_SETTINGS
         },
         file: Hex(file),
@@ -53,8 +60,8 @@ fn example_with<'a>(file: &'a [u8], mark: u8, string: &'a [u8]) -> Load<'a> {
 }
 
 /// The same settings, but for segments of one byte.
-fn one_byte<'a>(file: &'a [u8], mark: u8, string: &'a [u8]) -> Load<'a> {
-    let mut end = example_with(file, mark, string);
+fn one_byte<'a>(version: u8, file: &'a [u8], mark: u8, string: &'a [u8]) -> Load<'a> {
+    let mut end = example_with(version, file, mark, string);
     end.settings.segment_size = 1;
     end
 }
@@ -77,25 +84,29 @@ fn images() -> [(Vec<u8>, u8); 5] {
 
 impl Compare {
     pub fn load_parameters(&mut self) {
-        self.parameters_set_cases();
+        for version in VERSIONS {
+            self.parameters_set_cases(version);
+        }
         for segments in [1, 255, 256, 257, 512] {
             self.last_frames(segments);
             for mark in [0, 1] {
                 self.end_of_load(segments, mark);
             }
         }
-        let strings = set_strings(&mut self.random);
-        for (string, refusal) in &strings {
-            self.string_in_every_call(string, *refusal);
-            self.string_tried(string, *refusal);
+        for version in VERSIONS {
+            let strings = set_strings(&mut self.random, version);
+            for (string, refusal) in &strings {
+                self.string_in_every_call(version, string, *refusal);
+                self.string_tried(version, string, *refusal);
+            }
+            self.order_of_refusals(version, &strings);
         }
-        self.order_of_refusals(&strings);
     }
 
     /// The rehearsal's example with a name, then with the empty string.
-    fn parameters_set_cases(&mut self) {
+    fn parameters_set_cases(&mut self, version: u8) {
         let file = example();
-        let end = example_with(&file, 1, &[1, 2, 65, 66]);
+        let end = example_with(version, &file, 1, &[1, 2, 65, 66]);
         let frame = |frame| Event::Frame(Hex(frame));
         let timer = Event::Timer;
         let waiting = numbers(Session::Waiting);
@@ -124,7 +135,7 @@ impl Compare {
         for (before, event, after, frame) in cases {
             self.set_case(&end, before, event, &[], (after, frame, &[]));
         }
-        let empty = example_with(&file, 1, &[]);
+        let empty = example_with(version, &file, 1, &[]);
         let wanted = (running(2, 1, 5), Some(&[20, 2, 0, 2, 0, 0, 0][..]), &[][..]);
         self.set_case(&empty, running(2, 0, 4), timer, &[], wanted);
     }
@@ -134,12 +145,13 @@ impl Compare {
     fn last_frames(&mut self, segments: u64) {
         let body = self.random.bytes(segments as usize);
         let file = images::shared(&body, 1, 5);
-        let string = self.any_entries().concat();
+        let version = self.any_version();
+        let string = self.any_entries(version).concat();
         let number = (segments - 1) as u8;
         let address = (segments as u32 - 1).to_le_bytes();
         let last = [&[number], &address[..], &body[body.len() - 1..]].concat();
-        self.last_with_parameters(&one_byte(&file, 1, &string), segments, &last);
-        self.last_without(&one_byte(&file, 0, &string), segments, &last);
+        self.last_with_parameters(&one_byte(version, &file, 1, &string), segments, &last);
+        self.last_without(&one_byte(version, &file, 0, &string), segments, &last);
     }
 
     /// `segment` is the last one's frame behind its code.
@@ -185,8 +197,9 @@ impl Compare {
     /// or comes up in the middle is among them.
     fn end_of_load(&mut self, segments: u64, mark: u8) {
         let file = images::shared(&self.random.bytes(segments as usize), 1, 5);
-        let string = self.any_entries().concat();
-        let end = one_byte(&file, mark, &string);
+        let version = self.any_version();
+        let string = self.any_entries(version).concat();
+        let end = one_byte(version, &file, mark, &string);
         let frames = end.frames(segments);
         let most = frames * 2;
         for position in segments - 1..=segments + 2 {
@@ -227,11 +240,14 @@ impl Compare {
 
     /// The string is judged in every call, before the frame; with the mark 0
     /// in none.
-    fn string_in_every_call(&mut self, string: &[u8], refusal: u8) {
-        const KIND: &str = "strings in every call";
+    fn string_in_every_call(&mut self, version: u8, string: &[u8], refusal: u8) {
+        let kind = match version {
+            V2_1 => "2.1: strings in every call",
+            _ => "strings in every call",
+        };
         let file = example();
-        let given = example_with(&file, 1, string);
-        let absent = example_with(&file, 0, string);
+        let given = example_with(version, &file, 1, string);
+        let absent = example_with(version, &file, 0, string);
         for record in [
             numbers(Session::Waiting),
             running(0, 0, 1),
@@ -242,16 +258,16 @@ impl Compare {
             ended(3, 0, 1, 2),
             ended(4, 2, 1, 4),
         ] {
-            self.every_event(KIND, &given, record, ROOM, refusal);
+            self.every_event(kind, &given, record, ROOM, refusal);
             let too_far = record.position >= 2;
-            self.every_event(KIND, &absent, record, ROOM, if too_far { 10 } else { 0 });
+            self.every_event(kind, &absent, record, ROOM, if too_far { 10 } else { 0 });
         }
-        self.every_event(KIND, &absent, ended(1, 2, 0, 3), ROOM, 0);
+        self.every_event(kind, &absent, ended(1, 2, 0, 3), ROOM, 0);
     }
 
     /// A timer and all frames; `earlier` is the refusal that comes before
     /// theirs, 0 for none.
-    fn every_event(
+    pub fn every_event(
         &mut self,
         kind: &'static str,
         end: &Load,
@@ -260,7 +276,12 @@ impl Compare {
         earlier: u8,
     ) {
         let frames = FRAMES.map(|(frame, refusal)| (Event::Frame(Hex(frame)), refusal));
-        for (event, refusal) in frames.into_iter().chain([(Event::Timer, 0)]) {
+        let long_name = if end.settings.version == V2_1 { 4 } else { 0 };
+        let others = [
+            (Event::Frame(Hex(&LONG_NAME)), long_name),
+            (Event::Timer, 0),
+        ];
+        for (event, refusal) in frames.into_iter().chain(others) {
             let case = Case {
                 kind,
                 end,
@@ -274,25 +295,26 @@ impl Compare {
     }
 
     /// The writer refuses of a string what a load's step does.
-    fn string_tried(&mut self, string: &[u8], refusal: u8) {
+    fn string_tried(&mut self, version: u8, string: &[u8], refusal: u8) {
         let frame = Frame::Parameters {
             number: self.random.u8(),
             entries: string,
             transfer: self.random.u32(),
         };
-        self.write("strings of loads", &frame, ROOM, Wanted::Refusal(refusal));
+        let wanted = Wanted::Refusal(refusal);
+        self.write(version, "strings of loads", &frame, ROOM, wanted);
     }
 
     /// A fault in each stage in which a step is judged, or none: every
     /// combination.
-    fn order_of_refusals(&mut self, strings: &[Judged]) {
+    fn order_of_refusals(&mut self, version: u8, strings: &[Judged]) {
         let of = |refusal| strings.iter().filter(move |string| string.1 == refusal);
         let picked = [of(0).next(), of(4).next(), of(4).last(), of(2).next()];
         for (string, refusal) in picked.into_iter().flatten() {
             for (file, image) in &images() {
-                let absent = example_with(file, 0, string);
+                let absent = example_with(version, file, 0, string);
                 self.records_and_events(&absent, [*image, 0]);
-                let given = example_with(file, 1, string);
+                let given = example_with(version, file, 1, string);
                 self.records_and_events(&given, [*image, *refusal]);
             }
         }

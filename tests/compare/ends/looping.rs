@@ -2,18 +2,19 @@
 
 use super::machine::{IDLE, state};
 use super::runs::loadable;
-use super::{Case, End, Event, Outcome, ROOM, first, room_refusal};
+use super::{Case, End, Event, Outcome, ROOM, first, read, room_refusal};
 use crate::Compare;
 use crate::beyond::BEYOND;
+use crate::make::{NO_VERSIONS, V3_0, VERSIONS};
 use crate::tally::Hex;
 use mop_plain::looping::{self, Session, Settings};
 use mop_plain::step::Sent;
+use mop_plain::version::Version;
 use mop_proved::{LoopSettings, Step};
 
 #[derive(Clone, Copy, Debug)]
 pub struct Loop<'a> {
-    pub repeats: u32,
-    pub receipt: u16,
+    pub settings: LoopSettings,
     pub data: Hex<'a>,
 }
 
@@ -31,9 +32,10 @@ impl End for Loop<'_> {
     ) -> Result<(Self::Record, Sent), u8> {
         let Hex(data) = self.data;
         let settings = Settings {
-            repeats: self.repeats,
-            receipt: self.receipt,
+            repeats: self.settings.repeats,
+            receipt: self.settings.receipt,
             data,
+            version: Version::from_number(self.settings.version)?,
         };
         let mut session = Session::from_numbers(record.verdict, record.repeats, record.sent)?;
         let sent = match event {
@@ -55,11 +57,7 @@ impl End for Loop<'_> {
         _: &mut [u8],
         reply: &mut [u8],
     ) -> Step<Self::Record> {
-        let Hex(data) = self.data;
-        let settings = LoopSettings {
-            repeats: self.repeats,
-            receipt: self.receipt,
-        };
+        let (settings, Hex(data)) = (self.settings, self.data);
         match event {
             Event::Start => mop_proved::loop_start(settings, data, reply),
             Event::Frame(Hex(bytes)) => {
@@ -79,6 +77,10 @@ impl End for Loop<'_> {
     fn verdict(record: &Self::Record) -> u8 {
         record.verdict
     }
+
+    fn version(&self) -> u8 {
+        self.settings.version
+    }
 }
 
 fn numbers(session: Session) -> mop_proved::Loop {
@@ -96,7 +98,9 @@ impl Compare {
     }
 
     fn loop_steps(&mut self) {
-        self.loop_set_cases();
+        for version in VERSIONS {
+            self.loop_set_cases(version);
+        }
         self.loop_rooms();
         for _ in 0..30_000 {
             self.any_loop_step();
@@ -114,12 +118,8 @@ impl Compare {
     }
 
     /// What the protocol says outright.
-    fn loop_set_cases(&mut self) {
-        let end = Loop {
-            repeats: 1,
-            receipt: 515,
-            data: Hex(&[1, 2]),
-        };
+    fn loop_set_cases(&mut self, version: u8) {
+        let end = test(version, 1, 515, &[1, 2]);
         let again: Option<&[u8]> = Some(&[24, 3, 2, 1, 2]);
         let reply = |frame| Event::Frame(Hex(frame));
         let with = |verdict, repeats, sent| mop_proved::Loop {
@@ -148,10 +148,13 @@ impl Compare {
     fn any_loop_step(&mut self) {
         let mut data = self.any_loop_data();
         let any = self.random.range(0, 255) as u32;
-        let mut repeats = self.random.pick(&[0, 0, 1, 2, 254, 255, any]);
-        let receipt = self.random.u16();
-        let mut record = self.good_loop_record(repeats);
-        let frame = self.frame_for_loop(receipt, &data);
+        let mut settings = LoopSettings {
+            repeats: self.random.pick(&[0, 0, 1, 2, 254, 255, any]),
+            receipt: self.random.u16(),
+            version: self.any_version(),
+        };
+        let mut record = self.good_loop_record(settings.repeats);
+        let frame = self.frame_for_loop(settings.receipt, &data);
         let event = match self.random.below(8) {
             0 => Event::Start,
             1 | 2 => Event::Timer,
@@ -166,13 +169,12 @@ impl Compare {
             false => 0,
         };
         if early != 0 && !start && self.random.once_in(2) {
-            self.loop_record_fault(repeats, &mut record);
+            self.loop_record_fault(settings.repeats, &mut record);
         } else if early != 0 {
-            self.loop_setting_fault(&mut repeats, &mut data);
+            self.loop_setting_fault(&mut settings, &mut data);
         }
         let end = Loop {
-            repeats,
-            receipt,
+            settings,
             data: Hex(&data),
         };
         let room = self.any_reply_room();
@@ -182,17 +184,19 @@ impl Compare {
             record,
             event,
             room,
-            wanted: first(&[early, room_refusal(room), event.refusal()]),
+            wanted: first(&[early, room_refusal(room), event.refusal(&end)]),
         };
         self.step(case, &mut []);
     }
 
-    fn loop_setting_fault(&mut self, repeats: &mut u32, data: &mut Vec<u8>) {
-        if self.random.once_in(2) {
-            *repeats = self.random.pick(&[256, 65_536, u32::MAX]);
-        } else {
-            let length = self.random.pick(&[1498, 1499, 1500, 1501, 67_033]);
-            *data = self.random.bytes(length);
+    fn loop_setting_fault(&mut self, settings: &mut LoopSettings, data: &mut Vec<u8>) {
+        match self.random.below(3) {
+            0 => settings.repeats = self.random.pick(&[256, 65_536, u32::MAX]),
+            1 => settings.version = self.random.pick(&NO_VERSIONS),
+            _ => {
+                let length = self.random.pick(&[1498, 1499, 1500, 1501, 67_033]);
+                *data = self.random.bytes(length);
+            }
         }
     }
 
@@ -237,11 +241,7 @@ impl Compare {
     }
 
     fn loop_rooms(&mut self) {
-        let end = Loop {
-            repeats: 1,
-            receipt: 515,
-            data: Hex(&[1, 2, 3]),
-        };
+        let end = test(self.any_version(), 1, 515, &[1, 2, 3]);
         for verdict in 0..=3 {
             let record = mop_proved::Loop {
                 sent: 1,
@@ -265,11 +265,8 @@ impl Compare {
         for _ in 0..2000 {
             let length = self.random.pick(&[0, 1, 7, 300, 1497]);
             let data = self.random.bytes(length);
-            let host = Loop {
-                repeats: self.random.pick(&[0, 1, 2, 5]),
-                receipt: self.random.u16(),
-                data: Hex(&data),
-            };
+            let repeats = self.random.pick(&[0, 1, 2, 5]);
+            let host = test(self.any_version(), repeats, self.random.u16(), &data);
             self.loop_run(&host);
         }
     }
@@ -287,9 +284,11 @@ impl Compare {
             let outcome = self.loop_call(host, record, event);
             record = outcome.record;
             sent += outcome.frame.iter().len() as u64;
-            answer = outcome.frame.and_then(|frame| self.loop_answer(frame));
+            answer = outcome
+                .frame
+                .and_then(|frame| self.loop_answer(host, frame));
         }
-        if record.sent != sent || sent > u64::from(host.repeats) + 1 {
+        if record.sent != sent || sent > u64::from(host.settings.repeats) + 1 {
             let what = format_args!("claim of a loop test");
             self.report(what, host, record, sent);
         }
@@ -310,18 +309,19 @@ impl Compare {
             room: ROOM,
             wanted: 0,
         };
-        self.step(case, &mut [])
+        self.step(case, &mut [0; 64])
     }
 
     /// What comes back for a test's frame.
-    fn loop_answer(&mut self, frame: Vec<u8>) -> Option<Vec<u8>> {
+    fn loop_answer(&mut self, host: &Loop, frame: Vec<u8>) -> Option<Vec<u8>> {
         match self.random.below(6) {
             0 => Some(frame),
             1 => {
                 let event = Event::Frame(Hex(&frame));
-                self.loop_call(&loadable(0, 0), state(IDLE), event).frame
+                let machine = loadable(host.version(), 0, 0);
+                self.loop_call(&machine, state(IDLE), event).frame
             }
-            2 => Some(self.damage(&frame)).filter(|frame| mop_plain::frame::read(frame).is_ok()),
+            2 => Some(self.damage(&frame)).filter(|frame| read(host, frame).is_ok()),
             _ => None,
         }
     }
@@ -336,13 +336,20 @@ impl Compare {
     }
 }
 
-/// A test of these data with one repeat.
-fn once(data: &[u8]) -> Loop<'_> {
+pub fn test(version: u8, repeats: u32, receipt: u16, data: &[u8]) -> Loop<'_> {
     Loop {
-        repeats: 1,
-        receipt: 0,
+        settings: LoopSettings {
+            repeats,
+            receipt,
+            version,
+        },
         data: Hex(data),
     }
+}
+
+/// A test of these data with one repeat.
+fn once(data: &[u8]) -> Loop<'_> {
+    test(V3_0, 1, 0, data)
 }
 
 /// Code 24 or 26.

@@ -1,14 +1,16 @@
 //! Compares the machine's steps.
 
+use super::blocks::{memory_least, small_memory};
 use super::machine_parameters::OLD;
 use super::machine_windows::{REFUSED, place_of, window, with_window};
 use super::{Case, End, Event, ROOM, first, frames, room_refusal};
 use crate::Compare;
-use crate::make;
+use crate::make::{self, NO_VERSIONS, V2_1, V3_0, VERSIONS};
 use crate::tally::Hex;
 use mop_plain::entries::{self, Kept};
 use mop_plain::machine::{self, State};
 use mop_plain::step::Sent;
+use mop_plain::version::Version;
 use mop_proved::{MachineSettings, Parameters, Step, Value, Window};
 
 const MEMORY_MOST: usize = 16_777_216;
@@ -48,6 +50,7 @@ impl End for Machine {
             dump_most: self.settings.reply_bytes,
             device: self.settings.device,
             processor: self.settings.processor,
+            version: Version::from_number(self.settings.version)?,
             window: plain_window(self.settings.window),
         };
         let mut machine = machine::Machine {
@@ -115,6 +118,10 @@ impl End for Machine {
 
     fn verdict(record: &Self::Record) -> u8 {
         record.state
+    }
+
+    fn version(&self) -> u8 {
+        self.settings.version
     }
 }
 
@@ -211,23 +218,28 @@ impl Compare {
     pub fn machine_steps(&mut self) {
         self.machine_set_cases();
         self.machine_numbers();
-        self.machine_rooms();
-        self.machine_states();
+        for version in VERSIONS {
+            self.machine_rooms(version);
+            self.machine_states(version);
+        }
         self.machine_parameters();
         self.machine_windows();
+        self.parameter_blocks();
+        self.machine_versions();
         for _ in 0..60_000 {
             self.any_machine_step();
         }
         self.large_memories();
     }
 
-    pub fn good_machine(&mut self) -> Machine {
+    pub fn good_machine(&mut self, version: u8) -> Machine {
         let any = self.random.range(1, 1495) as u32;
         Machine {
             settings: MachineSettings {
                 reply_bytes: self.random.pick(&[1, 2, 4, 20, 1494, 1495, any]),
                 device: self.random.u8(),
                 processor: self.random.u8(),
+                version,
                 window: self.window_about((2, 6), 16),
             },
             purpose: self.random.pick(&[Purpose::Load, Purpose::Dump]),
@@ -301,11 +313,13 @@ impl Compare {
 
     /// Every number against every expected number.
     fn machine_numbers(&mut self) {
-        let mut memory = self.random.bytes(16);
+        let mut memory = self.random.bytes(64);
         for expected in 0..=255 {
-            let end = self.good_machine();
+            let version = self.any_version();
+            let end = self.good_machine(version);
             for number in 0..=255 {
-                let address = self.random.range(0, 16) as u32;
+                let far = self.random.range(60, 64);
+                let address = self.random.pick(&[0, 2, 8, far]) as u32;
                 let data = self.random.bytes(2);
                 let transfer = self.random.pick(&[None, None, Some(77)]);
                 let frame = frames::load(number, address, &data, transfer);
@@ -322,13 +336,13 @@ impl Compare {
         }
     }
 
-    fn machine_rooms(&mut self) {
-        let memory = self.random.bytes(30);
+    fn machine_rooms(&mut self, version: u8) {
+        let memory = self.random.bytes(70);
         for number in IDLE..=STARTED {
-            let end = self.good_machine();
+            let end = self.good_machine(version);
             let load = frames::load(0, 3, &[1, 2, 3], None);
             let dump = frames::request_dump(2, 20);
-            let offer = make::frame(&mut self.random, 12);
+            let offer = make::frame(&mut self.random, version, 12);
             let parameters = frames::parameters(0, &[1, 1, 65], 9);
             for frame in [load, dump, offer, vec![24, 1, 2], parameters] {
                 self.rooms(&end, state(number), Event::Frame(Hex(&frame)), &memory);
@@ -339,9 +353,9 @@ impl Compare {
     }
 
     /// Every state number; those above 4 cannot be.
-    fn machine_states(&mut self) {
+    fn machine_states(&mut self, version: u8) {
         for number in 0..=255 {
-            let end = self.good_machine();
+            let end = self.good_machine(version);
             let frame = frames::load(0, 0, &[1], None);
             for event in [Event::Frame(Hex(&frame)), Event::Timer] {
                 let case = Case {
@@ -352,17 +366,18 @@ impl Compare {
                     room: ROOM,
                     wanted: if number > STARTED { 10 } else { 0 },
                 };
-                self.step(case, &mut [0; 4]);
+                self.step(case, &mut [0; 64]);
             }
         }
     }
 
     fn any_machine_step(&mut self) {
-        let mut memory = self.any_memory();
-        let mut end = self.good_machine();
+        let version = self.any_version();
+        let mut memory = self.any_memory(version);
+        let mut end = self.good_machine(version);
         let mut record = self.any_state();
-        let frame = self.frame_for_machine(record.expected, end.settings.reply_bytes, memory.len());
-        end.settings.window = self.window_about(place_of(&frame), memory.len());
+        let frame = self.frame_for_machine(&end, record.expected, memory.len());
+        end.settings.window = self.window_about(place_of(&end, &frame, memory.len()), memory.len());
         let event = match self.random.below(10) {
             0 => Event::Start,
             1 | 2 => Event::Timer,
@@ -380,51 +395,63 @@ impl Compare {
             self.spoil(&mut end.settings, &mut record, event);
         }
         let room = self.any_reply_room();
+        let small = small_memory(version, memory.len());
         let case = Case {
-            kind: "any state and frame",
+            kind: match version {
+                V2_1 => "2.1: any state and frame",
+                _ => "any state and frame",
+            },
             end: &end,
             record,
             event,
             room,
-            wanted: first(&[early, room_refusal(room), event.refusal()]),
+            wanted: first(&[early, small, room_refusal(room), event.refusal(&end)]),
         };
         self.step(case, &mut memory);
     }
 
-    /// Puts D, the window or, where there is one, the state out of its range.
+    /// Puts D, the window, the version or, where there is one, the state out of
+    /// its range.
     fn spoil(
         &mut self,
         settings: &mut MachineSettings,
         record: &mut mop_proved::Machine,
         event: Event,
     ) {
-        let parts = if matches!(event, Event::Start) { 2 } else { 3 };
+        let parts = if matches!(event, Event::Start) { 3 } else { 4 };
         match self.random.below(parts) {
             0 => {
                 let bad = [0, 1496, 65_536, 65_537, 1 << 31, u32::MAX];
                 settings.reply_bytes = self.random.pick(&bad);
             }
             1 => settings.window = window(self.random.pick(&REFUSED)),
+            2 => settings.version = self.random.pick(&NO_VERSIONS),
             _ => record.state = self.number_from(5),
         }
     }
 
-    fn any_memory(&mut self) -> Vec<u8> {
-        let length = match self.random.below(64) {
+    /// A memory, mostly one that is long enough for the version.
+    fn any_memory(&mut self, version: u8) -> Vec<u8> {
+        let least = match self.random.once_in(8) {
+            true => 0,
+            false => memory_least(version),
+        };
+        let more = match self.random.below(64) {
             0..=6 => 0,
             7..=12 => self.random.range(1480, 1510),
             13..=18 => self.random.range(1, 4000),
             19 => self.random.range(65_530, 70_000),
             _ => self.random.range(1, 40),
         };
-        self.random.bytes(length)
+        self.random.bytes(least + more)
     }
 
     /// A frame that may matter to a machine that expects this number.
-    fn frame_for_machine(&mut self, expected: u8, reply_bytes: u32, memory: usize) -> Vec<u8> {
+    fn frame_for_machine(&mut self, end: &Machine, expected: u8, memory: usize) -> Vec<u8> {
+        let (version, reply_bytes) = (end.settings.version, end.settings.reply_bytes);
         let frame = match self.random.below(13) {
             0..=4 => self.any_load(expected, memory),
-            10..=12 => self.any_parameters(expected),
+            10..=12 => self.any_parameters(version, expected),
             5 | 6 => {
                 let address = self.address_about(memory, reply_bytes as usize);
                 let near = reply_bytes as u16;
@@ -432,7 +459,7 @@ impl Compare {
                 let count = [0, 1, near - 1, near, near + 1, 256, u16::MAX, any];
                 frames::request_dump(address, self.random.pick(&count))
             }
-            7 => make::frame(&mut self.random, 24),
+            7 => make::frame(&mut self.random, version, 24),
             8 => vec![1],
             _ => self.any_good_frame(),
         };
@@ -483,20 +510,23 @@ impl Compare {
             let mut memory = vec![3; length];
             let mut end = Machine {
                 purpose: Purpose::Dump,
-                ..self.good_machine()
+                ..self.good_machine(V2_1)
             };
             let top = length as u32;
             end.settings.window = self.window_about((u64::from(top) - 2, 2), length);
             let fits = frames::load(0, top - 2, &[1, 2], None);
             let not = frames::load(0, top - 1, &[1, 2], None);
             let dump = frames::request_dump(top - 3, 9);
-            for event in [
-                Event::Frame(Hex(&fits)),
-                Event::Frame(Hex(&not)),
-                Event::Frame(Hex(&dump)),
-                Event::Start,
-                Event::Timer,
+            let parameters = frames::parameters(0, &[1, 1, 65, 2, 1, 7], 9);
+            for (version, event) in [
+                (V2_1, Event::Frame(Hex(&fits))),
+                (V3_0, Event::Frame(Hex(&not))),
+                (V3_0, Event::Frame(Hex(&dump))),
+                (V2_1, Event::Frame(Hex(&parameters))),
+                (V3_0, Event::Start),
+                (V2_1, Event::Timer),
             ] {
+                end.settings.version = version;
                 let case = Case {
                     kind: "memories about 16,777,216 bytes",
                     end: &end,

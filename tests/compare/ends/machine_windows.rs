@@ -1,14 +1,14 @@
 //! Compares the machine's steps with a ROM window: loads about its ends, what
 //! it leaves alone, and windows that are refused.
 
+use super::blocks;
 use super::dump::ADDRESS_END;
-use super::machine::{
-    IDLE, Machine, OFFERING, Purpose, REQUESTING, STARTED, loading, started, state,
-};
-use super::{Case, Event, ROOM, first, frames, room_refusal};
+use super::machine::{IDLE, Machine, OFFERING, Purpose, REQUESTING, loading, started, state};
+use super::{Case, Event, ROOM, frames, read};
 use crate::Compare;
+use crate::make::{V3_0, VERSIONS};
 use crate::tally::Hex;
-use mop_plain::frame::{self, Frame};
+use mop_plain::frame::Frame;
 use mop_proved::{MachineSettings, Window};
 
 /// The bytes of the memory that most windows here are for.
@@ -80,11 +80,12 @@ pub fn window((start, length): (u64, u64)) -> Window {
     Window { start, length }
 }
 
-/// A machine with this window.
+/// A machine of version 3.0.0 with this window.
 pub fn with_window(bounds: (u64, u64)) -> Machine {
     Machine {
         settings: MachineSettings {
             reply_bytes: REPLY_BYTES as u32,
+            version: V3_0,
             window: window(bounds),
             ..Default::default()
         },
@@ -110,13 +111,14 @@ fn lay(window: Window, address: u32, data: &[u8], memory: &mut [u8]) -> bool {
     fits
 }
 
-/// The address and length that a frame speaks of, or 0.
-pub fn place_of(bytes: &[u8]) -> (u64, u64) {
-    match frame::read(bytes) {
+/// The address and length that a frame speaks of to a machine, or 0.
+pub fn place_of(end: &Machine, bytes: &[u8], memory: usize) -> (u64, u64) {
+    match read(end, bytes) {
         Ok(Frame::Load { address, data, .. } | Frame::LoadTransfer { address, data, .. }) => {
             (address.into(), data.len() as u64)
         }
         Ok(Frame::RequestDump { address, count }) => (address.into(), count.into()),
+        Ok(Frame::Parameters { .. }) => blocks::place(end.settings.version, memory),
         _ => (0, 0),
     }
 }
@@ -193,7 +195,9 @@ impl Compare {
             1 => self.random.range(0, 1490),
             _ => self.random.range(1, 20),
         };
-        let (few, behind) = (self.random.range(1, 20), self.random.range(0, 20));
+        let version = self.any_version();
+        let least = blocks::memory_least(version);
+        let (few, behind) = (self.random.range(1, 20), self.random.range(0, 20) + least);
         let address = match self.random.below(128) {
             0 => 65_536 + few,
             1..=40 => 0,
@@ -201,7 +205,7 @@ impl Compare {
         };
         let old = self.random.bytes(address + length + behind);
         let data = self.random.bytes(length);
-        let mut end = self.good_machine();
+        let mut end = self.good_machine(version);
         end.settings.window = self.window_about((address as u64, length as u64), old.len());
         let transfer = self.random.pick(&[None, Some(77)]);
         self.load_twice(&end, &old, address as u32, &data, transfer);
@@ -288,54 +292,18 @@ impl Compare {
 
     /// Every window in every call, with other faults and without.
     fn windows_judged(&mut self) {
+        const KIND: &str = "windows in every call";
         let good = ACCEPTED.map(|bounds| (bounds, 0));
         let bad = REFUSED.map(|bounds| (bounds, 10));
         for (bounds, refusal) in good.into_iter().chain(bad) {
-            for room in [ROOM, ROOM - 1] {
-                self.every_call(with_window(bounds), refusal, room);
+            for version in VERSIONS {
+                let mut end = with_window(bounds);
+                end.settings.version = version;
+                for room in [ROOM, ROOM - 1] {
+                    self.every_call(KIND, end, refusal, blocks::MEMORY_LEAST, room);
+                }
             }
         }
-    }
-
-    /// `window` is the window's refusal.
-    fn every_call(&mut self, mut end: Machine, window: u8, room: usize) {
-        let load = frames::load(0, 3, &[1, 2, 3], None);
-        let parameters = frames::parameters(0, &[], 9);
-        let dump = frames::request_dump(2, 20);
-        let unread = [&[][..], &[10, 1, 0, 0], &[16], &[8, 0, 1, 3, 0, 0]];
-        let frames = [&load[..], &parameters, &dump].into_iter().chain(unread);
-        let events: Vec<Event> = frames.map(|frame| Event::Frame(Hex(frame))).collect();
-        for number in IDLE..=STARTED + 1 {
-            let bad_state = if number > STARTED { 10 } else { 0 };
-            for &event in events.iter().chain(&[Event::Timer]) {
-                let wanted = [window, bad_state, room_refusal(room), event.refusal()];
-                self.call_with_window(&end, number, event, room, first(&wanted));
-            }
-        }
-        for purpose in [Purpose::Load, Purpose::Dump] {
-            end.purpose = purpose;
-            let wanted = [window, room_refusal(room)];
-            self.call_with_window(&end, 0, Event::Start, room, first(&wanted));
-        }
-    }
-
-    fn call_with_window(
-        &mut self,
-        end: &Machine,
-        number: u8,
-        event: Event,
-        room: usize,
-        wanted: u8,
-    ) {
-        let case = Case {
-            kind: "windows in every call",
-            end,
-            record: state(number),
-            event,
-            room,
-            wanted,
-        };
-        self.step(case, &mut [5; 8]);
     }
 
     /// A window that begins or ends about the ends of a load at this address,

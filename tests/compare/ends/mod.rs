@@ -2,6 +2,7 @@
 //! over a link that loses and doubles frames.
 
 mod beyond;
+mod blocks;
 mod dump;
 mod frames;
 mod link;
@@ -14,6 +15,7 @@ mod machine_windows;
 mod runs;
 mod seen;
 mod strings;
+mod versions;
 mod window_runs;
 
 use std::fmt::{self, Debug};
@@ -21,8 +23,9 @@ use std::fmt::{self, Debug};
 use crate::Compare;
 use crate::random::Random;
 use crate::tally::Hex;
-use mop_plain::frame;
+use mop_plain::frame::{self, Frame};
 use mop_plain::step::Sent;
+use mop_plain::version::Version;
 use mop_proved::{Step, Written};
 
 pub use seen::Seen;
@@ -75,6 +78,9 @@ pub trait End: Debug {
 
     /// The record's verdict, or the machine's state.
     fn verdict(record: &Self::Record) -> u8;
+
+    /// The version in its settings, which may be none.
+    fn version(&self) -> u8;
 }
 
 /// What happens to an end.
@@ -94,10 +100,10 @@ impl Event<'_> {
         }
     }
 
-    /// The frame's own refusal, 0 for none.
-    fn refusal(&self) -> u8 {
+    /// The frame's own refusal at an end, 0 for none.
+    fn refusal(&self, end: &impl End) -> u8 {
         match self {
-            Event::Frame(Hex(bytes)) => frame::read(bytes).err().unwrap_or(0),
+            Event::Frame(Hex(bytes)) => read(end, bytes).err().unwrap_or(0),
             _ => 0,
         }
     }
@@ -132,6 +138,11 @@ pub struct Outcome<R> {
     pub record: R,
     pub refusal: u8,
     pub frame: Option<Vec<u8>>,
+}
+
+/// Reads a frame under an end's version.
+fn read<'a>(end: &impl End, bytes: &'a [u8]) -> Result<Frame<'a>, u8> {
+    Version::from_number(end.version()).and_then(|version| frame::read(version, bytes))
 }
 
 /// The record, frame and store that a call is to give.
@@ -175,6 +186,7 @@ impl Compare {
         self.window_runs();
         self.dump_runs();
         self.all_loops();
+        self.host_versions();
         self.ends_beyond_32_bits();
     }
 
@@ -384,7 +396,7 @@ fn judge<E: End>(
         return Err("a refusal changes nothing".to_string());
     }
     let frame = sent_bytes(answer, &after.reply).unwrap_or_default();
-    if !frame.is_empty() && frame::read(&frame).is_err() {
+    if !frame.is_empty() && read(case.end, &frame).is_err() {
         return Err("a readable frame".to_string());
     }
     let end = MARGIN + frame.len();

@@ -1,15 +1,16 @@
 //! Whole runs of both ends over a link, and what the protocol claims of each.
 
+use super::blocks::{self, Block, MEMORY_LEAST, small_memory};
 use super::dump::{Dump, sent_most};
 use super::link::{Link, Mix, Side};
 use super::load::{EXAMPLE_SETTINGS, Load, example};
 use super::machine::{Machine, Purpose, STARTED};
 use super::machine_windows::touches;
-use super::seen::WITH_PARAMETERS;
 use super::strings::kept;
 use super::{End, ROOM};
 use crate::Compare;
 use crate::images::{Region, build};
+use crate::make::{V2_1, V3_0, VERSIONS};
 use crate::tally::Hex;
 use mop_proved::{DumpSettings, LoadSettings, MachineSettings, Parameters, Window};
 
@@ -48,7 +49,7 @@ pub struct Job {
     memory: Vec<u8>,
     /// The machine's ROM window.
     window: Window,
-    /// How many segments come before the first that does not fit.
+    /// How many frames come before the first that does not fit.
     fitting: usize,
     /// The entries of the parameter string, if there is one.
     entries: Option<Vec<Vec<u8>>>,
@@ -66,7 +67,7 @@ impl Job {
                 address += part.len();
             }
         }
-        let job = Job {
+        Job {
             file: build(body, regions, TRANSFER),
             segments,
             transfer: TRANSFER,
@@ -75,22 +76,38 @@ impl Job {
             window: Window::default(),
             fitting: 0,
             entries: None,
-        };
-        job.with_window(Window::default())
+        }
+        .judged()
     }
 
     /// The same with a ROM window.
     pub fn with_window(self, window: Window) -> Job {
+        Job { window, ..self }.judged()
+    }
+
+    /// The same with its frames judged.
+    fn judged(self) -> Job {
         let fits = |(address, bytes): &&(usize, Vec<u8>)| {
             let inside = address + bytes.len() <= self.memory.len();
-            inside && !touches(window, *address as u64, bytes.len())
+            inside && !touches(self.window, *address as u64, bytes.len())
         };
-        let fitting = self.segments.iter().take_while(fits).count();
+        let segments = self.segments.iter().take_while(fits).count();
+        let all = segments == self.segments.len();
+        let last = all && self.block().is_some_and(|block| block.fits(self.window));
         Job {
-            window,
-            fitting,
+            fitting: segments + usize::from(last),
             ..self
         }
+    }
+
+    /// What the code 20 lays, if there is one.
+    fn block(&self) -> Option<Block> {
+        let entries = self.entries.as_ref()?;
+        Some(Block::new(
+            self.settings.version,
+            entries,
+            self.memory.len(),
+        ))
     }
 
     /// The same with a parameter string at its end.
@@ -103,6 +120,12 @@ impl Job {
             entries: Some(entries),
             ..self
         }
+        .judged()
+    }
+
+    /// Address and length of the block, or of nothing.
+    pub fn block_place(&self) -> (u64, u64) {
+        blocks::place(self.settings.version, self.memory.len())
     }
 
     /// n, the number of frames.
@@ -116,9 +139,22 @@ impl Job {
         (*address as u64, bytes.len() as u64)
     }
 
+    /// Its version, and whether it has a string and a window.
+    pub fn sort(&self) -> &'static str {
+        let with_window = self.window.length > 0;
+        match (self.settings.version, self.entries.is_some(), with_window) {
+            (V2_1, false, false) => "2.1: without a string, without a window",
+            (V2_1, false, true) => "2.1: without a string, with a window",
+            (V2_1, true, false) => "2.1: with a string, without a window",
+            (V2_1, true, true) => "2.1: with a string, with a window",
+            (_, false, _) => "without a string",
+            (_, true, _) => "with a string",
+        }
+    }
+
     /// The verdict and position if nothing is lost.
     pub fn outcome(&self) -> (u8, usize) {
-        match self.fitting < self.segments.len() {
+        match self.fitting < self.frames() {
             true => (2, self.fitting),
             false => (1, self.frames()),
         }
@@ -150,17 +186,19 @@ impl Job {
         }
     }
 
-    /// Memory is the old one with the segments of the first k frames laid over
-    /// it, all of which fit, and the machine has started exactly if they are
-    /// all; then it keeps what the string says, and before nothing.
+    /// Memory is the old one with what the first k frames lay laid over it, all
+    /// of which fit, and the machine has started exactly if they are all; then
+    /// it keeps what the string says, and before nothing.
     fn first_are_in(&self, count: usize, link: &Link<Load>) -> bool {
-        let segments = self.segments.iter().take(count);
-        if count > self.frames() || segments.len() > self.fitting {
+        if count > self.fitting {
             return false;
         }
         let mut memory = self.memory.clone();
-        for (address, bytes) in segments {
+        for (address, bytes) in self.segments.iter().take(count) {
             memory[*address..][..bytes.len()].copy_from_slice(bytes);
+        }
+        if let Some(block) = self.block().filter(|_| count == self.frames()) {
+            memory = block.over(&memory);
         }
         let started = link.state.state == STARTED && link.state.transfer == self.transfer;
         let (right, wanted) = match count == self.frames() {
@@ -215,7 +253,7 @@ impl Compare {
             file: Hex(&file),
             parameters: Hex(&[]),
         };
-        let machine = loadable(0, 0);
+        let machine = loadable(V3_0, 0, 0);
         let mut link = Link::new(self, &host, &machine, &[0; 8], &[]);
         for letter in "txmhtht".chars() {
             link.event(self, letter, ROOM);
@@ -289,7 +327,7 @@ impl Compare {
     }
 
     pub fn load_runs(&mut self) {
-        for _ in 0..3000 {
+        for _ in 0..4000 {
             let job = self.any_job();
             let job = self.perhaps_with_window(job);
             let job = self.perhaps_with_parameters(job);
@@ -298,23 +336,26 @@ impl Compare {
             self.load_run(&job, mix, events);
         }
         // Numbers wrap from 256 segments on, and must not be confused then.
-        for round in 0..36 {
+        for round in 0..48 {
             let count = match round {
                 0 => 256,
                 1 => 257,
                 2 => 258,
                 _ => self.random.range(257, 700),
             };
-            let job = self.long_job(count);
-            let job = self.perhaps_with_parameters(job);
+            let version = VERSIONS[round % 2];
+            let mut job = self.long_job(version, count);
+            if round % 4 < 2 {
+                job = job.ending_with(self.any_entries(version));
+            }
             let mix = [CLEAN, DOUBLED, LOSSY][round % 3];
             self.load_run(&job, mix, 16 * count);
         }
         // The parameters' number is 1, 255, 0, 1 and 0.
         for count in [1, 255, 256, 257, 512] {
-            for mix in [CLEAN, DOUBLED, LOSSY] {
-                let entries = self.any_entries();
-                let job = self.long_job(count).ending_with(entries);
+            for (mix, version) in [(CLEAN, V2_1), (CLEAN, V3_0), (DOUBLED, V2_1), (LOSSY, V3_0)] {
+                let entries = self.any_entries(version);
+                let job = self.long_job(version, count).ending_with(entries);
                 self.load_run(&job, mix, 30 + 16 * count);
             }
         }
@@ -322,16 +363,20 @@ impl Compare {
 
     fn perhaps_with_parameters(&mut self, job: Job) -> Job {
         match self.random.once_in(2) {
-            true => job.ending_with(self.any_entries()),
+            true => {
+                let version = job.settings.version;
+                job.ending_with(self.any_entries(version))
+            }
             false => job,
         }
     }
 
     /// The job, or one time in three the same with a window about the ends of
-    /// a segment.
+    /// a segment or of the block.
     fn perhaps_with_window(&mut self, job: Job) -> Job {
         let index = self.random.range(0, job.segments.len() - 1);
-        let window = self.window_about(job.place(index), job.memory.len());
+        let place = self.random.pick(&[job.place(index), job.block_place()]);
+        let window = self.window_about(place, job.memory.len());
         match self.random.once_in(3) {
             true => job.with_window(window),
             false => job,
@@ -346,21 +391,20 @@ impl Compare {
             file: Hex(&job.file),
             parameters: Hex(string.as_deref().unwrap_or_default()),
         };
-        let mut machine = loadable(self.random.u8(), self.random.u8());
+        let mut machine = loadable(job.settings.version, self.random.u8(), self.random.u8());
         machine.settings.window = job.window;
         let link = Link::new(self, &host, &machine, &job.memory, &[]);
         let record = self.drive(link, mix, events, |link| job.claim(link));
-        let name = match string {
-            Some(_) => WITH_PARAMETERS,
-            None => Load::NAME,
-        };
         let (verdict, position) = (record.verdict, record.position);
-        self.tally.ends.run(name, verdict, position);
+        let frames = job.frames() as u64;
+        let seen = &mut self.tally.ends;
+        seen.load_run(job.settings, verdict, position, frames);
         record
     }
 
     /// A few regions, mostly inside memory, in a few segments.
     fn any_job(&mut self) -> Job {
+        let version = self.any_version();
         let scale = self.random.pick(&[1, 1, 1, 60]);
         let body_length = scale * self.random.range(1, 40);
         let body = self.random.bytes(body_length);
@@ -381,25 +425,35 @@ impl Compare {
             segment_size: self.random.range(least, 40 * scale).min(1490) as u32,
             repeats: self.random.pick(&[0, 1, 2, 3, 255]),
             with_parameters: 0,
+            version,
         };
         let memory_length = match self.random.below(6) {
             0 => self.random.range(0, end),
             1 => end,
             _ => end + self.random.range(0, 20),
         };
-        let memory = self.random.bytes(memory_length);
+        let memory = self.memory_of(version, memory_length);
         Job::new(&body, &regions, settings, memory)
     }
 
+    /// A memory of this length, or of a little more than the version's least.
+    fn memory_of(&mut self, version: u8, length: usize) -> Vec<u8> {
+        let length = match small_memory(version, length) {
+            0 => length,
+            _ => MEMORY_LEAST + self.random.range(0, 5),
+        };
+        self.random.bytes(length)
+    }
+
     /// One region in this many segments, which all fit, or all but the last.
-    pub fn long_job(&mut self, count: usize) -> Job {
+    pub fn long_job(&mut self, version: u8, count: usize) -> Job {
         let size = self.random.range(1, 3);
         let length = count * size - self.random.range(0, size - 1);
         let body = self.random.bytes(length);
         let address = self.random.range(0, 30);
         let end = address + length;
         let memory_length = self.random.pick(&[end - 1, end, end + 5, end + 5]);
-        let memory = self.random.bytes(memory_length);
+        let memory = self.memory_of(version, memory_length);
         let region = Region {
             address: address as u32,
             offset: 0,
@@ -409,6 +463,7 @@ impl Compare {
             segment_size: size as u32,
             repeats: self.random.pick(&[20, 255]),
             with_parameters: 0,
+            version,
         };
         Job::new(&body, &[region], settings, memory)
     }
@@ -434,7 +489,9 @@ impl Compare {
     /// A dump of `length` bytes; `bytes` are C and D.
     fn dump_run(&mut self, length: usize, bytes: [u32; 2], mix: Mix, events: usize) {
         let memory_length = self.random.pick(&[0, 1, length / 2, length, 2 * length]);
-        let memory = self.random.bytes(memory_length);
+        let version = self.any_version();
+        let memory = self.memory_of(version, memory_length);
+        let memory_length = memory.len();
         let top = u32::MAX - (length as u32 - 1);
         let near = self.random.range(0, memory_length) as u32;
         let host = Dump {
@@ -445,12 +502,14 @@ impl Compare {
                     .pick(&[0, near, near, memory_length as u32, top]),
                 request_bytes: bytes[0],
                 repeats: self.random.pick(&[0, 1, 2, 3, 255, 255]),
+                version,
             },
         };
         let range = (host.settings.address.into(), length as u64);
         let machine = Machine {
             settings: MachineSettings {
                 reply_bytes: bytes[1],
+                version,
                 window: self.window_about(range, memory_length),
                 ..Default::default()
             },
@@ -466,12 +525,13 @@ impl Compare {
 }
 
 /// A machine that starts for a load.
-pub fn loadable(device: u8, processor: u8) -> Machine {
+pub fn loadable(version: u8, device: u8, processor: u8) -> Machine {
     Machine {
         settings: MachineSettings {
             reply_bytes: 1,
             device,
             processor,
+            version,
             ..Default::default()
         },
         purpose: Purpose::Load,

@@ -3,16 +3,19 @@
 use std::collections::BTreeMap;
 
 use super::{Case, End, Event, Outcome};
+use crate::make::V2_1;
 use crate::tally::{Tally, commas};
+use mop_proved::LoadSettings;
 
 const WITH_FRAME: &[u8] = &[0, 1, 2, 3, 4, 9, 10];
 const WITHOUT_FRAME: &[u8] = &[0, 9, 10];
+const OF_MACHINE: &[u8] = &[0, 9, 10, 11];
 
 /// Each row, with all that can occur in it.
-const POSSIBLE: [(&str, &str, &[u8]); 27] = [
-    ("machine", "start", WITHOUT_FRAME),
-    ("machine", "frame", WITH_FRAME),
-    ("machine", "timer", WITHOUT_FRAME),
+const POSSIBLE: [(&str, &str, &[u8]); 32] = [
+    ("machine", "start", OF_MACHINE),
+    ("machine", "frame", &[0, 1, 2, 3, 4, 9, 10, 11]),
+    ("machine", "timer", OF_MACHINE),
     ("load", "start", &[0]),
     ("load", "frame", &[0, 1, 2, 3, 4, 5, 6, 7, 8, 9, 10]),
     ("load", "timer", &[0, 2, 4, 5, 6, 7, 8, 9, 10]),
@@ -32,22 +35,33 @@ const POSSIBLE: [(&str, &str, &[u8]); 27] = [
     ("loop", CODES, &[24]),
     ("load", RUNS, &[0, 1, 2, 3, 4]),
     (WITH_PARAMETERS, RUNS, &[0, 1, 2, 3, 4]),
+    (UNDER_2_1, RUNS, &[0, 1, 2, 3, 4]),
+    (WITH_BLOCK, RUNS, &[0, 1, 2, 3, 4]),
     ("dump", RUNS, &[0, 1, 3]),
     ("loop", RUNS, &[0, 1, 2, 3]),
     ("load", LONG_RUNS, &[FINISHED]),
     (WITH_PARAMETERS, LONG_RUNS, &[FINISHED]),
+    (UNDER_2_1, LONG_RUNS, &[FINISHED]),
+    (WITH_BLOCK, LONG_RUNS, &[FINISHED]),
     ("dump", LONG_RUNS, &[FINISHED]),
+    (WITH_BLOCK, LAST_FRAME, &[REJECTED]),
 ];
 /// Loads with a parameter string.
-pub const WITH_PARAMETERS: &str = "load with parameters";
+const WITH_PARAMETERS: &str = "load with parameters";
+/// Those of version 2.1, without a string and with one.
+const UNDER_2_1: &str = "2.1 load";
+const WITH_BLOCK: &str = "2.1 load with parameters";
 const STATES: &str = "reached";
 const CODES: &str = "sent code";
 const RUNS: &str = "runs ended";
 const LONG_RUNS: &str = "long runs ended";
+/// Ended at the code 20.
+const LAST_FRAME: &str = "runs at code 20";
 
 /// Above this many frames, their numbers have come round.
 const LONG: u64 = 257;
 const FINISHED: u8 = 1;
+const REJECTED: u8 = 2;
 
 #[derive(Default)]
 pub struct Seen {
@@ -69,6 +83,20 @@ impl Seen {
         }
     }
 
+    /// The same for a load under a version, of so many frames.
+    pub fn load_run(&mut self, settings: LoadSettings, verdict: u8, position: u64, frames: u64) {
+        let end = match (settings.version, settings.with_parameters) {
+            (V2_1, 0) => UNDER_2_1,
+            (V2_1, _) => WITH_BLOCK,
+            (_, 0) => "load",
+            _ => WITH_PARAMETERS,
+        };
+        self.run(end, verdict, position);
+        if end == WITH_BLOCK && verdict == REJECTED && position + 1 == frames {
+            self.count(end, LAST_FRAME, verdict);
+        }
+    }
+
     pub fn print(&self) {
         println!("  ends: refusals, verdicts or states reached, codes sent");
         for ((end, row), answers) in &self.rows {
@@ -76,7 +104,7 @@ impl Seen {
                 .iter()
                 .map(|(answer, &count)| format!("{answer:>4}:{:>10}", commas(count)))
                 .collect();
-            println!("    {:<36}{counts}", format!("{end} {row}"));
+            println!("    {:<42}{counts}", format!("{end} {row}"));
         }
     }
 

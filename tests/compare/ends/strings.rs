@@ -2,26 +2,27 @@
 //! keeps of them (PROTOCOL 4, "A code 20 that is taken").
 
 use crate::Compare;
-use crate::make::{self, TIME_BOUNDS};
+use crate::make::{self, TIME_BOUNDS, V2_1, V3_0, short_types};
 use crate::random::Random;
 use mop_plain::entries;
+use mop_plain::version::Version;
 use mop_proved::{Parameters, Value};
 
 /// The longest string.
 pub const STRING_MOST: usize = 1493;
 
-/// Types 1 to 4 and their values' greatest lengths.
-const SHORT: [(u8, usize); 4] = [(1, 16), (2, 6), (3, 16), (4, 6)];
-
 /// A string, and its refusal at a load: 0, 4 or 2.
 pub type Judged = (Vec<u8>, u8);
 
+/// The last value of a type, empty if it is absent.
+pub fn last_of(entries: &[Vec<u8>], kind: u8) -> &[u8] {
+    let entry = entries.iter().rev().find(|entry| entry[0] == kind);
+    entry.map_or(&[], |entry| &entry[2..])
+}
+
 /// What a machine keeps: of each type the last value, then zeros.
 pub fn kept(entries: &[Vec<u8>]) -> Parameters {
-    let last = |kind| {
-        let entry = entries.iter().rev().find(|entry| entry[0] == kind);
-        entry.map_or(Value::default(), |entry| value(&entry[2..]))
-    };
+    let last = |kind| value(last_of(entries, kind));
     Parameters {
         target_name: last(1),
         target_address: last(2),
@@ -40,9 +41,9 @@ fn value(bytes: &[u8]) -> Value {
 
 /// Good entries of every sort: none, each type, types more than once, all
 /// types, and as many as a frame holds.
-pub fn good_lists(random: &mut Random) -> Vec<Vec<Vec<u8>>> {
+pub fn good_lists(random: &mut Random, version: u8) -> Vec<Vec<Vec<u8>>> {
     let mut lists = vec![vec![]];
-    for (kind, most) in SHORT {
+    for (kind, most) in short_types(version) {
         let [none, one, short, long] =
             [0, 1, most - 1, most].map(|length| make::with_head(kind, random.bytes(length)));
         lists.extend([&none, &one, &short, &long].map(|entry| vec![entry.clone()]));
@@ -52,38 +53,42 @@ pub fn good_lists(random: &mut Random) -> Vec<Vec<Vec<u8>>> {
         lists.push(vec![none, long.clone()]);
         lists.push(vec![one, long, short]);
     }
-    let [first, second] = [(); 2].map(|()| make::with_head(5, make::time(random).to_vec()));
-    lists.push(vec![first.clone()]);
-    lists.push(vec![first, second]);
-    let mut all = all_types(random);
+    if version == V3_0 {
+        let [first, second] = [(); 2].map(|()| make::with_head(5, make::time(random).to_vec()));
+        lists.push(vec![first.clone()]);
+        lists.push(vec![first, second]);
+    }
+    let mut all = all_types(random, version);
     lists.push(all.clone());
-    all.extend(all_types(random));
+    all.extend(all_types(random, version));
     lists.push(all.clone());
     all.reverse();
     lists.push(all);
-    lists.extend([1492, STRING_MOST].map(|length| make::filling(random, length)));
+    lists.extend([1492, STRING_MOST].map(|length| make::filling(random, version, length)));
     lists
 }
 
-/// One entry of each type.
-fn all_types(random: &mut Random) -> Vec<Vec<u8>> {
+/// One entry of each type that the version has.
+fn all_types(random: &mut Random, version: u8) -> Vec<Vec<u8>> {
     let mut all = Vec::new();
-    for (kind, most) in SHORT {
+    for (kind, most) in short_types(version) {
         let length = random.range(0, most);
         all.push(make::with_head(kind, random.bytes(length)));
     }
-    all.push(make::with_head(5, make::time(random).to_vec()));
+    if version == V3_0 {
+        all.push(make::with_head(5, make::time(random).to_vec()));
+    }
     all
 }
 
 /// Entries that are bad wherever they stand.
-fn bad_entries(random: &mut Random) -> Vec<Vec<u8>> {
+fn bad_entries(random: &mut Random, version: u8) -> Vec<Vec<u8>> {
     let mut bad: Vec<Vec<u8>> = Vec::new();
     for kind in [0, 6, 7, 64, 128, 255] {
         bad.push(make::with_head(kind, vec![]));
         bad.push(make::with_head(kind, random.bytes(3)));
     }
-    for (kind, most) in SHORT {
+    for (kind, most) in short_types(version) {
         for length in [most + 1, most + 2, 255] {
             bad.push(make::with_head(kind, random.bytes(length)));
         }
@@ -92,6 +97,9 @@ fn bad_entries(random: &mut Random) -> Vec<Vec<u8>> {
         let mut time = make::time(random).to_vec();
         time.resize(length, 0);
         bad.push(make::with_head(5, time));
+    }
+    if version == V2_1 {
+        bad.push(make::with_head(5, make::time(random).to_vec()));
     }
     bad.extend(bad_times(random));
     bad
@@ -119,10 +127,12 @@ fn bad_times(random: &mut Random) -> Vec<Vec<u8>> {
 }
 
 /// Entries that end too early.
-fn cut_entries(random: &mut Random) -> Vec<Vec<u8>> {
+fn cut_entries(random: &mut Random, version: u8) -> Vec<Vec<u8>> {
+    let types = short_types(version);
+    let mut longest = |(kind, most)| make::with_head(kind, random.bytes(most));
     let whole = [
-        make::with_head(1, random.bytes(16)),
-        make::with_head(4, random.bytes(6)),
+        longest(types[0]),
+        longest(types[3]),
         make::with_head(5, make::time(random).to_vec()),
     ];
     let cuts = |entry: &Vec<u8>| (1..entry.len()).map(|end| entry[..end].to_vec()).collect();
@@ -130,68 +140,69 @@ fn cut_entries(random: &mut Random) -> Vec<Vec<u8>> {
 }
 
 /// Strings about and above the greatest length; 4 comes before 2.
-fn long_strings(random: &mut Random) -> Vec<Judged> {
+fn long_strings(random: &mut Random, version: u8) -> Vec<Judged> {
     let mut long = Vec::new();
     for length in [1494, 1495, 1500, 2000, 4096, 70_000] {
-        let good = make::filling(random, length).concat();
+        let good = make::filling(random, version, length).concat();
         for end in [&[0][..], &[5], &[1, 17], &[6, 0]] {
             long.push(([&good, end].concat(), 4));
         }
         long.push((good, 2));
     }
     // One byte more than a frame holds, which is no entry.
-    let full = make::filling(random, STRING_MOST).concat();
+    let full = make::filling(random, version, STRING_MOST).concat();
     long.push(([&full[..], &[1]].concat(), 4));
     long
 }
 
 /// Strings of every sort, with their refusals.
-pub fn set_strings(random: &mut Random) -> Vec<Judged> {
-    let good = good_lists(random).into_iter();
+pub fn set_strings(random: &mut Random, version: u8) -> Vec<Judged> {
+    let good = good_lists(random, version).into_iter();
     let mut strings: Vec<Judged> = good.map(|list| (list.concat(), 0)).collect();
-    for bad in bad_entries(random) {
-        let [before, behind] = [(); 2].map(|()| make::entry(random));
+    for bad in bad_entries(random, version) {
+        let [before, behind] = [(); 2].map(|()| make::entry(random, version));
         strings.push(([&before, &bad, &behind].map(|entry| &entry[..]).concat(), 4));
         strings.push((bad, 4));
     }
-    for cut in cut_entries(random) {
-        strings.push(([make::entry(random), cut.clone()].concat(), 4));
+    for cut in cut_entries(random, version) {
+        strings.push(([make::entry(random, version), cut.clone()].concat(), 4));
         strings.push((cut, 4));
     }
-    strings.extend(long_strings(random));
+    strings.extend(long_strings(random, version));
     strings
 }
 
 impl Compare {
     /// Good entries that a load may end with.
-    pub fn any_entries(&mut self) -> Vec<Vec<u8>> {
+    pub fn any_entries(&mut self, version: u8) -> Vec<Vec<u8>> {
         let room = self.random.pick(&[40, 80, 80, 80, STRING_MOST]);
-        make::entries(&mut self.random, room)
+        make::entries(&mut self.random, version, room)
     }
 
     /// A string, mostly a good one.
-    pub fn any_string(&mut self) -> Judged {
-        let mut entries = self.any_entries();
+    pub fn any_string(&mut self, version: u8) -> Judged {
+        let mut entries = self.any_entries(version);
         let place = self.random.range(0, entries.len());
         match self.random.below(16) {
             0 => {
-                let bad = bad_entries(&mut self.random);
+                let bad = bad_entries(&mut self.random, version);
                 entries.insert(place, bad[self.random.range(0, bad.len() - 1)].clone());
                 (entries.concat(), 4)
             }
             1 => {
-                let cut = cut_entries(&mut self.random);
+                let cut = cut_entries(&mut self.random, version);
                 entries.push(cut[self.random.range(0, cut.len() - 1)].clone());
                 (entries.concat(), 4)
             }
             2 => {
                 let length = self.random.range(1494, 2500);
-                (make::filling(&mut self.random, length).concat(), 2)
+                (make::filling(&mut self.random, version, length).concat(), 2)
             }
             3 if !entries.is_empty() => {
                 let string = self.damage(&entries.concat());
-                let refusal = if entries::are_good(&string) { 0 } else { 4 };
-                (string, refusal)
+                let known = Version::from_number(version);
+                let good = known.is_ok_and(|known| entries::are_good(known, &string));
+                (string, if good { 0 } else { 4 })
             }
             _ => (entries.concat(), 0),
         }

@@ -3,7 +3,8 @@ use Prim.Native.Nat.{ℕ}
 use native.Mathlib.Omega.{arith}
 use Rattle.message.specs.Read.{rows, find}
 use Rattle.codes.specs.Table.{marked}
-use Rattle.codes.proofs.Table.{entry as table-entry, none-above}
+use Rattle.octets.specs.ValuesLaws.{entry as table-entry}
+use Rattle.codes.proofs.Table.{none-above}
 use Rattle.codes.proofs.entry.Statement.{statement}
 use Rattle.codes.proofs.entry.Tie as tie
 

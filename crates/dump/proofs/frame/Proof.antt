@@ -15,7 +15,9 @@ use Rattle.dump.proofs.frame.Tie as tie
 inside : (c : tie.After-read)
     → let a = c .before .before .before .before .before .before .args in
     c .read .result .«data_at» + c .read .result .«data_length» ≤ length (a .frame .now)
-inside c = rw (c .read .ensures) (fields-inside (c .before .before .before .before .before .before .args .frame .now))
+inside c =
+    let a = c .before .before .before .before .before .before .args in
+    rw (c .read .ensures) (fields-inside (a .settings .version) (a .frame .now))
 
 allowed : (c : tie.After-read)
     → let a = c .before .before .before .before .before .before .args in
@@ -35,7 +37,7 @@ returns c =
     let a = c .before .before .before .before .before .before .args in
     let some = rw (c .before .before .refusal .ensures) at (c .before .if1 .taken) in
     rw (c .refused .ensures .0, c .refused .ensures .1, c .before .before .refusal .ensures)
-    (frame-call-refused _ (a .frame .now) (a .session) (a .buffer .now) (a .reply .now) (onFrame (a .settings) (a .session) (a .frame .now) (a .buffer .now)) some)
+    (frame-call-refused (a .settings .version) _ (a .frame .now) (a .session) (a .buffer .now) (a .reply .now) (onFrame (a .settings) (a .session) (a .frame .now) (a .buffer .now)) some)
 
 read-requires : tie.Need-read-requires
 read-requires c κs = search needs
@@ -50,7 +52,7 @@ returns-2 c =
     let none = rw (went .refusal .ensures) at (c .before .before .before .before .if1 .left) in
     let read = c .before .before .before .read .ensures in
     rw (c .refused2 .ensures .0, c .refused2 .ensures .1, read)
-    (frame-refused _ (a .frame .now) (a .session) (a .buffer .now) (a .reply .now) (onFrame (a .settings) (a .session) (a .frame .now) (a .buffer .now)) none (rw read at (c .before .if2 .taken)))
+    (frame-refused (a .settings .version) _ (a .frame .now) (a .session) (a .buffer .now) (a .reply .now) (onFrame (a .settings) (a .session) (a .frame .now) (a .buffer .now)) none (rw read at (c .before .if2 .taken)))
 
 react-requires : tie.Need-react-requires
 react-requires c κs = search needs

@@ -35,7 +35,7 @@ unfolding layout low
 returns c =
     let a = c .before .before .before .before .before .before .before .before .args in
     let asks = requestDump (place (a .s) (a .h)) (asked (a .s) (a .h)) in
-    sent-by asks (a .reply .now) refl (omega arith) (omega arith) (rw (c .before .before .before .before .asked .ensures) at (c .before .before .request-dump .ensures))
+    sent-by 0 asks (a .reply .now) refl (omega arith) (omega arith) (rw (c .before .before .before .before .asked .ensures) at (c .before .before .request-dump .ensures 0))
 
 pub request-spec : {M : Type 1} → statement M
 request-spec =

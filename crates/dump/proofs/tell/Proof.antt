@@ -53,7 +53,7 @@ returns-3 c =
     let a = went .before .before .args in
     let room = went .before .before .pre .room in
     let told = c .before .before .before .before .enum-told3 .given .1 in
-    let came = sent-by dumpComplete (a .reply .now) refl (omega arith) room (c .before .before .dump-complete .ensures) in
+    let came = sent-by 0 dumpComplete (a .reply .now) refl (omega arith) room (c .before .before .dump-complete .ensures 0) in
     λ buffer. rw (went .counted .ensures) (tells-complete (a .s) (a .n) buffer (a .reply .now) told came)
 
 pub tell-spec : {M : Type 1} → statement M

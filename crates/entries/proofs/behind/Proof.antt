@@ -17,13 +17,13 @@ use Rattle.entries.proofs.behind.Statement.{statement}
 use Rattle.entries.proofs.behind.Tie as tie
 
 -- an entry that stands whole at a place
-passed : (s : List ℕ) (at n : ℕ) → getD s (at + 1) 0 ≡ n → at + 2 + n ≤ length s → listed (getD s at 0) n ≡ true → (getD s at 0 ≡ 5 → Fields 0 0 (take n (drop (at + 2) s))) → walk Kind (drop (at + 2 + n) s) ≡ walk Kind (drop at s)
-passed s at n e fits l f =
+passed : (version : ℕ) (s : List ℕ) (at n : ℕ) → getD s (at + 1) 0 ≡ n → at + 2 + n ≤ length s → listed version (getD s at 0) n ≡ true → (getD s at 0 ≡ 5 → Fields 0 0 (take n (drop (at + 2) s))) → walk version Kind (drop (at + 2 + n) s) ≡ walk version Kind (drop at s)
+passed version s at n e fits l f =
     let after = drop (at + 2) s in
     let two : suc (at + 1) ≡ at + 2 = omega arith in
     let head : drop at s ≡ getD s at 0 ∷ n ∷ after = rw (drop-cons s at 0 (omega arith), ← add-one at, drop-cons s (at + 1) 0 (omega arith), e, two) in
     let size : length (take n after) ≡ n = length-take-le n after (simp length-drop (omega arith)) in
-    let over = rw (size, take-append-drop) at (walk-entry (getD s at 0) (take n after) (drop n after) (rw size l) f) in
+    let over = rw (size, take-append-drop) at (walk-entry version (getD s at 0) (take n after) (drop n after) (rw size l) f) in
     rw (head, ← drop-drop n (at + 2) s) (sym over)
 
 add-value : tie.Need-add-value
@@ -60,19 +60,19 @@ returns-4 : tie.Need-returns-4
 returns-4 c =
     let a = c .before .before .before .before .before .before .before .before .args in
     let l = sym (c .before .before .listed .ensures) ∙ not-false (c .before .before .listed .result) (c .before .if3 .left) in
-    λ _. (omega arith, passed (a .s .now) (a .at) _ refl (omega arith) l (λ is5. absurd (c .if4 .taken is5)))
+    λ _. (omega arith, passed (a .version) (a .s .now) (a .at) _ refl (omega arith) l (λ is5. absurd (c .if4 .taken is5)))
 
 time-requires : tie.Need-time-requires
 time-requires c κs =
     let a = c .before .before .before .before .before .before .before .before .args in
     let l = sym (c .before .before .listed .ensures) ∙ not-false (c .before .before .listed .result) (c .before .if3 .left) in
-    omega (arith, ten (getD (a .s .now) (a .at) 0) (getD (a .s .now) (a .at + 1) 0) l (c .if4 .left))
+    omega (arith, ten (a .version) (getD (a .s .now) (a .at) 0) (getD (a .s .now) (a .at + 1) 0) l (c .if4 .left))
 
 returns-5 : tie.Need-returns-5
 returns-5 c =
     let a = c .before .before .before .before .before .before .before .before .before .before .args in
     let l = sym (c .before .before .before .before .listed .ensures) ∙ not-false (c .before .before .before .before .listed .result) (c .before .before .before .if3 .left) in
-    λ _. (omega arith, passed (a .s .now) (a .at) _ refl (omega arith) l (λ is5. rw (ten (getD (a .s .now) (a .at) 0) (getD (a .s .now) (a .at + 1) 0) l is5) (c .before .time .ensures (c .if5 .taken))))
+    λ _. (omega arith, passed (a .version) (a .s .now) (a .at) _ refl (omega arith) l (λ is5. rw (ten (a .version) (getD (a .s .now) (a .at) 0) (getD (a .s .now) (a .at + 1) 0) l is5) (c .before .time .ensures (c .if5 .taken))))
 
 returns-6 : tie.Need-returns-6
 returns-6 c = λ some. absurd (some refl)

@@ -11,14 +11,14 @@ use Rattle.entries.proofs.rest.Statement.{statement}
 use Rattle.entries.proofs.rest.Tie as tie
 
 abbrev Inv-loop : tie.InvT-loop
-Inv-loop s from p₀ i₀ p i = walk p (drop i s) ≡ walk Kind (drop from s)
+Inv-loop version s from p₀ i₀ p i = walk version p (drop i s) ≡ walk version Kind (drop from s)
 
 abbrev μ-loop : tie.MeasureT-loop
-μ-loop s from p₀ i₀ p i = length s - i
+μ-loop version s from p₀ i₀ p i = length s - i
 
 -- the invariant after the byte
-turned : (c : tie.After-next Inv-loop μ-loop) → let a = c .before .before .before .before .before .args in walk (c .next .result) (drop (c .before .before .before .loop .i + 1) (a .s .now)) ≡ walk Kind (drop (a .from) (a .s .now))
-turned c = rw (c .next .ensures) (sym (walk-at _ _ _ (c .before .before .loop-test .taken)) ∙ c .before .before .before .loop .inv)
+turned : (c : tie.After-next Inv-loop μ-loop) → let a = c .before .before .before .before .before .args in walk (a .version) (c .next .result) (drop (c .before .before .before .loop .i + 1) (a .s .now)) ≡ walk (a .version) Kind (drop (a .from) (a .s .now))
+turned c = rw (c .next .ensures) (sym (walk-at _ _ _ _ (c .before .before .loop-test .taken)) ∙ c .before .before .before .loop .inv)
 
 loop-holds : tie.Need-loop-holds Inv-loop μ-loop
 loop-holds c = refl
@@ -36,7 +36,7 @@ enum-told : tie.Need-enum-told Inv-loop μ-loop
 enum-told c = search needs
 
 returns : tie.Need-returns Inv-loop μ-loop
-returns c = sym (walk-outside _) ∙ (rw (c .enum-told .given .1) at (turned (c .before .before)))
+returns c = sym (walk-outside _ _) ∙ (rw (c .enum-told .given .1) at (turned (c .before .before)))
 
 loop-less : tie.Need-loop-less Inv-loop μ-loop
 loop-less c = omega arith
@@ -46,7 +46,7 @@ loop-again c = turned (c .before)
 
 returns-2 : tie.Need-returns-2 Inv-loop μ-loop
 unfolding walk
-returns-2 c = ap (walk (c .before .loop .p)) (sym (drop-of-length-le _ (c .loop-test .left))) ∙ c .before .loop .inv
+returns-2 c = ap (walk _ (c .before .loop .p)) (sym (drop-of-length-le _ (c .loop-test .left))) ∙ c .before .loop .inv
 
 pub rest-spec : {M : Type 1} → statement M
 rest-spec =

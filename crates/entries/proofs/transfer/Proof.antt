@@ -13,12 +13,12 @@ cast-t8 c = search needs
 returns : tie.Need-returns
 returns c =
     let a = c .before .args in
-    rw (walk-within 4 (drop (a .at) (a .s .now)) (simp length-drop (c .if1 .taken)), length-drop)
+    λ version. rw (walk-within version 4 (drop (a .at) (a .s .now)) (simp length-drop (c .if1 .taken)), length-drop)
 
 returns-2 : tie.Need-returns-2
 returns-2 c =
     let a = c .before .args in
-    rw (walk-beyond 4 (drop (a .at) (a .s .now)) (simp length-drop (c .if1 .left)))
+    λ version. rw (walk-beyond version 4 (drop (a .at) (a .s .now)) (simp length-drop (c .if1 .left)))
 
 pub transfer-spec : {M : Type 1} → statement M
 transfer-spec = tie.close (tie.spec sub-n cast-t8 returns returns-2)

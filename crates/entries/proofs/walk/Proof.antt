@@ -12,10 +12,10 @@ use Rattle.entries.proofs.walk.Statement.{statement}
 use Rattle.entries.proofs.walk.Tie as tie
 
 abbrev Inv-loop : tie.InvT-loop
-Inv-loop s from i₀ i = walk Kind (drop i s) ≡ walk Kind (drop from s)
+Inv-loop version s from i₀ i = walk version Kind (drop i s) ≡ walk version Kind (drop from s)
 
 abbrev μ-loop : tie.MeasureT-loop
-μ-loop s from i₀ i = length s - i
+μ-loop version s from i₀ i = length s - i
 
 loop-holds : tie.Need-loop-holds Inv-loop μ-loop
 loop-holds c = refl
@@ -33,8 +33,9 @@ returns : tie.Need-returns Inv-loop μ-loop
 unfolding next
 returns c =
     let l = c .before .before .before .before .loop in
-    let mark = walk-at Kind (c .before .before .before .before .before .before .args .s .now) (l .i) (c .before .before .before .loop-test .taken) in
-    c .transfer .ensures ∙ (sym (rw (c .before .if1 .taken) at mark) ∙ l .inv)
+    let a = c .before .before .before .before .before .before .args in
+    let mark = walk-at (a .version) Kind (a .s .now) (l .i) (c .before .before .before .loop-test .taken) in
+    c .transfer .ensures (a .version) ∙ (sym (rw (c .before .if1 .taken) at mark) ∙ l .inv)
 
 behind-requires : tie.Need-behind-requires Inv-loop μ-loop
 behind-requires c κs = search needs
@@ -53,7 +54,7 @@ loop-again c = c .before .behind .ensures (c .if2 .left) .1 ∙ c .before .befor
 
 returns-3 : tie.Need-returns-3 Inv-loop μ-loop
 unfolding walk
-returns-3 c = ap (walk Kind) (sym (drop-of-length-le _ (c .loop-test .left))) ∙ c .before .loop .inv
+returns-3 c = ap (walk _ Kind) (sym (drop-of-length-le _ (c .loop-test .left))) ∙ c .before .loop .inv
 
 pub walk-spec : {M : Type 1} → statement M
 walk-spec =

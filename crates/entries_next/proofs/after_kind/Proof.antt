@@ -1,3 +1,4 @@
+use borrow.Author.Needs.{needs}
 use borrow.Author.Tests.{eq-eqb, ne-eqb, le-leb, lt-leb}
 use Rattle.entries_next.specs.Next.{next}
 use Rattle.entries_next.proofs.after_kind.Statement.{statement}
@@ -7,13 +8,18 @@ returns : tie.Need-returns
 unfolding next
 returns c = rw (eq-eqb _ _ (c .if1 .taken))
 
+last-kind-requires : tie.Need-last-kind-requires
+last-kind-requires c κs = search needs
+
 returns-2 : tie.Need-returns-2
 unfolding next
-returns-2 c = rw (ne-eqb _ _ (c .before .if1 .left), le-leb _ _ (c .if2 .taken))
+returns-2 c =
+    rw (← c .before .last-kind .ensures, ne-eqb _ _ (c .before .before .if1 .left), le-leb _ _ (c .if2 .taken))
 
 returns-3 : tie.Need-returns-3
 unfolding next
-returns-3 c = rw (ne-eqb _ _ (c .before .if1 .left), lt-leb _ _ (c .if2 .left))
+returns-3 c =
+    rw (← c .before .last-kind .ensures, ne-eqb _ _ (c .before .before .if1 .left), lt-leb _ _ (c .if2 .left))
 
 pub after-kind-spec : {M : Type 1} → statement M
-after-kind-spec = tie.close (tie.spec returns returns-2 returns-3)
+after-kind-spec = tie.close (tie.spec returns last-kind-requires returns-2 returns-3)

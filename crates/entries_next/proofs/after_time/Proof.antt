@@ -18,11 +18,11 @@ field-requires c κs = search needs
 
 returns : tie.Need-returns
 unfolding next
-returns c = rw (← c .before .field .ensures, not-true (c .before .field .result) (c .if1 .taken))
+returns c = λ version. rw (← c .before .field .ensures, not-true (c .before .field .result) (c .if1 .taken))
 
 returns-2 : tie.Need-returns-2
 unfolding next
-returns-2 c =
+returns-2 c = λ version.
     rw
     (← c .before .before .field .ensures, not-false (c .before .before .field .result) (c .before .if1 .left), eq-eqb _ _ (c .if2 .taken))
 
@@ -34,7 +34,7 @@ add-t7 c =
 
 returns-3 : tie.Need-returns-3
 unfolding next
-returns-3 c =
+returns-3 c = λ version.
     rw
     (← c .before .before .field .ensures, not-false (c .before .before .field .result) (c .before .if1 .left), ne-eqb _ _ (c .if2 .left))
 

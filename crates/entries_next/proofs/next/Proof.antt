@@ -22,8 +22,8 @@ after-size-requires c κs = search needs
 enum-known-p-2 : tie.Need-enum-known-p-2
 enum-known-p-2 c = search needs
 
-sub-t11 : tie.Need-sub-t11
-sub-t11 c = search needs
+sub-t12 : tie.Need-sub-t12
+sub-t12 c = search needs
 
 enum-known-p-3 : tie.Need-enum-known-p-3
 enum-known-p-3 c = search needs
@@ -34,8 +34,8 @@ after-time-requires c κs = search needs
 enum-known-p-4 : tie.Need-enum-known-p-4
 enum-known-p-4 c = search needs
 
-sub-t14 : tie.Need-sub-t14
-sub-t14 c = search needs
+sub-t15 : tie.Need-sub-t15
+sub-t15 c = search needs
 
 enum-told-2 : tie.Need-enum-told-2
 enum-told-2 c = search needs
@@ -62,7 +62,7 @@ returns-4 c =
     rw (c .before .before .p2 .given .1, eq-eqb _ _ e)
 
 returns-5 : tie.Need-returns-5
-returns-5 c = rw (c .before .before .p3 .given .1) (c .after-time .ensures)
+returns-5 c = rw (c .before .before .p3 .given .1) (c .after-time .ensures (c .before .before .before .before .args .version))
 
 returns-6 : tie.Need-returns-6
 unfolding next
@@ -89,11 +89,11 @@ next-spec =
     enum-known-p
     after-size-requires
     enum-known-p-2
-    sub-t11
+    sub-t12
     enum-known-p-3
     after-time-requires
     enum-known-p-4
-    sub-t14
+    sub-t15
     enum-told-2
     enum-told-3
     returns

@@ -1,4 +1,5 @@
 use mathlib.Core.Path.{sym, ap, _∙_}
+use Rattle.version.specs.Version.{v30}
 use Rattle.message.specs.declared.Fields.{Fields}
 use Rattle.message.specs.Laws.{fields-short}
 use Rattle.listing.specs.Laws.{refused-line, read-line}
@@ -41,7 +42,7 @@ slice-aggregate-line-3 c = search needs
 line-requires-2 : tie.Need-line-requires-2
 line-requires-2 c κs =
     let went = c .before .before .before .before .before .before in
-    fields-short (went .before .before .before .args .s .now) (ap (λ (f : Fields). f .refusal) (sym (went .read .ensures)) ∙ c .before .before .before .if1 .left)
+    fields-short v30 (went .before .before .before .args .s .now) (ap (λ (f : Fields). f .refusal) (sym (went .read .ensures)) ∙ c .before .before .before .if1 .left)
 
 same-length-2 : tie.Need-same-length-2
 same-length-2 c = search needs

@@ -36,17 +36,17 @@ module _ (s : Settings) (h : Session) (file string frame reply : List ℕ) (i : 
   denied : (k .refusal ≡ 0 → ⊥) → {session : Session} {answer : Written} → session ≡ h → answer ≡ refused (k .refusal)
       → Leaves (loadFrame s h file string frame reply) session answer tt reply
   denied ne d f =
-      rw (d, f, refused-as) (frame-call-refused (refusal s h file string reply) frame h tt reply reacts (λ z. ne (refused-as ∙ z)))
+      rw (d, f, refused-as) (frame-call-refused (s .version) (refusal s h file string reply) frame h tt reply reacts (λ z. ne (refused-as ∙ z)))
 
-  module _ (z : k .refusal ≡ 0) {f : Fields} (r : f ≡ fields frame) where
-    number : f .refusal ≡ fields frame .refusal
+  module _ (z : k .refusal ≡ 0) {f : Fields} (r : f ≡ fields (s .version) frame) where
+    number : f .refusal ≡ fields (s .version) frame .refusal
     number = ap (λ (x : Fields). x .refusal) r
 
     unread : (f .refusal ≡ 0 → ⊥) → {session : Session} {answer : Written} → session ≡ h → answer ≡ refused (f .refusal)
         → Leaves (loadFrame s h file string frame reply) session answer tt reply
     unread ne d g =
         rw (d, g, number)
-        (frame-refused (refusal s h file string reply) frame h tt reply reacts (sym refused-as ∙ z) (λ n. ne (number ∙ n)))
+        (frame-refused (s .version) (refusal s h file string reply) frame h tt reply reacts (sym refused-as ∙ z) (λ n. ne (number ∙ n)))
 
     -- the segment found is the one that may go out
     module _ (at : h .position ≤ addresses + 1 → i ≡ ahead h) {n : Next} (d : n ≡ react (k .many) h f) where
@@ -58,7 +58,7 @@ module _ (s : Settings) (h : Session) (file string frame reply : List ℕ) (i : 
       does-next : f .refusal ≡ 0 → {session : Session} {answer : Written} {out : List ℕ} → Leaves (gives (acting s file string k n) reply) session answer tt out
           → Leaves (loadFrame s h file string frame reply) session answer tt out
       does-next w l =
-          frame-accepted (refusal s h file string reply) frame h tt reply reacts (sym refused-as ∙ z) (sym number ∙ w)
+          frame-accepted (s .version) (refusal s h file string reply) frame h tt reply reacts (sym refused-as ∙ z) (sym number ∙ w)
           (given s h file string reply i e z n bound (rw (says s h file string reply i e .counted z, r) at d) l)
 
 ahead-requires : tie.Need-ahead-requires

@@ -40,10 +40,10 @@ module _ (s : Settings) (file string : List ℕ) (i : ℕ) (k : Ruling) where
     without g = rw (eq-eqb (i + 1) (k .many) e, ne-eqb (s .«with_parameters») 1 g, add-sub-cancel-left)
 
   whole : {reply : List ℕ} → Sendable s file string i k reply → {m : Message} {answer : Written} {out : List ℕ} → m ≡ frame
-      → Came (write m reply) answer out → Came (sent frame reply) answer out
+      → Came (write (s .version) m reply) answer out → Came (sent frame reply) answer out
   whole {reply} r e c =
       let w = numbered-sent s string (k .many) (k .transfer) i (piece file (k .segment)) (r .parameters) (omega (arith, r .short, length-bytes file (k .segment) (r .within))) in
-      sent-by frame reply (w .0) (w .1) (r .room) (rw e at c)
+      sent-by (s .version) frame reply (w .0) (w .1) (r .room) (rw e at c)
 
 cast-number : tie.Need-cast-number
 cast-number c = search needs
@@ -82,7 +82,7 @@ returns c =
     let written = c .before .before in
     let k = written .before .before .before .before .before .before .before .before .before .before in
     whole (k .args .settings) (k .args .file .now) (k .args .parameters .now) (k .args .index) (k .args .k) (k .pre)
-    (another (k .args .settings) (k .args .file .now) (k .args .parameters .now) (k .args .index) (k .args .k) (λ e. omega arith)) (written .memory-load .ensures)
+    (another (k .args .settings) (k .args .file .now) (k .args .parameters .now) (k .args .index) (k .args .k) (λ e. omega arith)) (written .memory-load .ensures (k .args .settings .version))
 
 parameters-requires : tie.Need-parameters-requires
 parameters-requires c κs = search needs
@@ -108,7 +108,7 @@ returns-3 c =
     let written = c .before .before in
     let k = written .before .before .before .before .before .before .before .before .before .before .before .before in
     whole (k .args .settings) (k .args .file .now) (k .args .parameters .now) (k .args .index) (k .args .k) (k .pre)
-    (without (k .args .settings) (k .args .file .now) (k .args .parameters .now) (k .args .index) (k .args .k) (omega arith) (λ e. omega arith)) (written .memory-load-transfer .ensures)
+    (without (k .args .settings) (k .args .file .now) (k .args .parameters .now) (k .args .index) (k .args .k) (omega arith) (λ e. omega arith)) (written .memory-load-transfer .ensures (k .args .settings .version))
 
 pub send-spec : {M : Type 1} → statement M
 send-spec =

@@ -1,5 +1,6 @@
 -- `load_checks::settled` meets its contract.
 use native.Mathlib.Omega.{arith}
+use borrow.Author.Needs.{needs}
 use borrow.Author.Tests.{le-leb, lt-leb}
 use Rattle.image.specs.Image.{widest}
 use Rattle.load_checks.proofs.settled.Statement.{statement}
@@ -22,8 +23,16 @@ returns-3 c =
 
 returns-4 : tie.Need-returns-4
 returns-4 c =
-    let a = c .before .before .before .before .before .before .before .args in
-    simp (le-leb 1 (a .settings .«segment_size») (omega arith), le-leb (a .settings .«segment_size») widest (omega arith), le-leb (a .settings .repeats) 255 (omega arith))
+    let a = c .before .before .before .before .before .before .before .before .args in
+    simp (le-leb 1 (a .settings .«segment_size») (omega arith), le-leb (a .settings .«segment_size») widest (omega arith), le-leb (a .settings .repeats) 255 (omega arith), lt-leb (a .settings .«with_parameters») 1 (omega arith))
+
+known-requires : tie.Need-known-requires
+known-requires c κs = search needs
+
+returns-5 : tie.Need-returns-5
+returns-5 c =
+    let a = c .before .before .before .before .before .before .before .before .before .args in
+    rw (le-leb 1 (a .settings .«segment_size») (omega arith), le-leb (a .settings .«segment_size») widest (omega arith), le-leb (a .settings .repeats) 255 (omega arith), le-leb (a .settings .«with_parameters») 1 (omega arith)) (c .known .ensures)
 
 pub settled-spec : {M : Type 1} → statement M
-settled-spec = tie.close (tie.spec returns returns-2 returns-3 returns-4)
+settled-spec = tie.close (tie.spec returns returns-2 returns-3 returns-4 known-requires returns-5)

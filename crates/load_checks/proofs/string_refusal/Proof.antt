@@ -20,11 +20,11 @@ module _ (s : Settings) (string : List ℕ) where
   unmarked e = rw (ne-eqb (s .«with_parameters») 1 e)
 
   module _ (m : s .«with_parameters» ≡ 1) where
-    unlisted : entryList string .listed ≡ false → 4 ≡ stringRefusal s string
+    unlisted : entryList string .listed (s .version) ≡ false → 4 ≡ stringRefusal s string
     unfolding first
     unlisted e = rw (eq-eqb (s .«with_parameters») 1 m, e)
 
-    module _ (l : entryList string .listed ≡ true) where
+    module _ (l : entryList string .listed (s .version) ≡ true) where
       too-long : longest < length string → 2 ≡ stringRefusal s string
       unfolding first
       too-long h = rw (eq-eqb (s .«with_parameters») 1 m, l, lt-leb (length string) longest h)

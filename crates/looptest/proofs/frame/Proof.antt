@@ -13,7 +13,9 @@ use Rattle.looptest.proofs.frame.Tie as tie
 inside : (c : tie.After-read)
     → let a = c .before .before .before .before .before .before .args in
     c .read .result .«data_at» + c .read .result .«data_length» ≤ length (a .frame .now)
-inside c = rw (c .read .ensures) (fields-inside (c .before .before .before .before .before .before .args .frame .now))
+inside c =
+    let a = c .before .before .before .before .before .before .args in
+    rw (c .read .ensures) (fields-inside (a .settings .version) (a .frame .now))
 
 refusal-requires : tie.Need-refusal-requires
 refusal-requires c κs = search needs
@@ -26,7 +28,7 @@ returns c =
     let a = c .before .before .before .before .before .before .args in
     let some = rw (c .before .before .refusal .ensures) at (c .before .if1 .taken) in
     rw (c .refused .ensures .0, c .refused .ensures .1, c .before .before .refusal .ensures)
-    (frame-call-refused _ (a .frame .now) (a .session) tt (a .reply .now) (onFrame (a .settings) (a .session) (a .bytes .now) (a .frame .now)) some)
+    (frame-call-refused (a .settings .version) _ (a .frame .now) (a .session) tt (a .reply .now) (onFrame (a .settings) (a .session) (a .bytes .now) (a .frame .now)) some)
 
 read-requires : tie.Need-read-requires
 read-requires c κs = search needs
@@ -41,7 +43,7 @@ returns-2 c =
     let none = rw (went .refusal .ensures) at (c .before .before .before .before .if1 .left) in
     let read = c .before .before .before .read .ensures in
     rw (c .refused2 .ensures .0, c .refused2 .ensures .1, read)
-    (frame-refused _ (a .frame .now) (a .session) tt (a .reply .now) (onFrame (a .settings) (a .session) (a .bytes .now) (a .frame .now)) none (rw read at (c .before .if2 .taken)))
+    (frame-refused (a .settings .version) _ (a .frame .now) (a .session) tt (a .reply .now) (onFrame (a .settings) (a .session) (a .bytes .now) (a .frame .now)) none (rw read at (c .before .if2 .taken)))
 
 add-end : tie.Need-add-end
 add-end c = omega (arith, inside (c .before .before .before), c .before .before .before .before .before .before .before .before .before .good)
@@ -71,7 +73,7 @@ returns-3 c =
     let size : f .«data_at» + f .«data_length» - f .«data_at» ≡ f .«data_length» = omega arith in
     let next = rw (size, read .ensures) at (c .before .react .ensures) in
     rw (c .sends-nothing .ensures .0, c .sends-nothing .ensures .1, next)
-    (frame-accepted _ (a .frame .now) (a .session) tt (a .reply .now) (onFrame (a .settings) (a .session) (a .bytes .now) (a .frame .now)) none
+    (frame-accepted (a .settings .version) _ (a .frame .now) (a .session) tt (a .reply .now) (onFrame (a .settings) (a .session) (a .bytes .now) (a .frame .now)) none
     (rw (read .ensures) at (c .before .before .before .before .if2 .left)) (refl, refl, refl, refl))
 
 pub frame-spec : {M : Type 1} → statement M

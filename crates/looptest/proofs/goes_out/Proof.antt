@@ -19,7 +19,7 @@ unfolding layout low
 returns c =
     let a = c .before .before .before .before .before .before .args in
     let m = loopData (a .s .receipt) (a .bytes .now) in
-    sent-leaves (a .h) tt m (a .reply .now) (sent-by m (a .reply .now) refl (omega arith) (omega arith) (c .before .before .loop-data .ensures))
+    sent-leaves (a .h) tt m (a .reply .now) (sent-by 0 m (a .reply .now) refl (omega arith) (omega arith) (c .before .before .loop-data .ensures 0))
 
 pub goes-out-spec : {M : Type 1} → statement M
 goes-out-spec = tie.close (tie.spec loop-data-requires same-length returns)

@@ -21,7 +21,7 @@ refused-requires c κs = search needs
 returns : tie.Need-returns
 returns c =
     let a = c .before .before .before .before .before .before .args in
-    let l = frame-call-refused (c .before .before .refusal .result) (a .frame .now) (a .machine) (a .memory .now) (a .reply .now) (λ (f : Fields). react (a .settings) (a .machine) f (a .frame .now) (a .memory .now)) (c .before .if1 .taken) in
+    let l = frame-call-refused (a .settings .version) (c .before .before .refusal .result) (a .frame .now) (a .machine) (a .memory .now) (a .reply .now) (λ (f : Fields). react (a .settings) (a .machine) f (a .frame .now) (a .memory .now)) (c .before .if1 .taken) in
     rw (← c .before .before .refusal .ensures) (c .refused .ensures .0 ∙ l .0, c .refused .ensures .1 ∙ l .1, l .2, l .3)
 
 read-requires : tie.Need-read-requires
@@ -35,7 +35,7 @@ returns-2 c =
     let went = c .before .before .before .before .before in
     let a = went .before .before .before .before .args in
     let some = rw (c .before .before .before .read .ensures) at (c .before .if2 .taken) in
-    let l = frame-refused (went .refusal .result) (a .frame .now) (a .machine) (a .memory .now) (a .reply .now) (λ (f : Fields). react (a .settings) (a .machine) f (a .frame .now) (a .memory .now)) (c .before .before .before .before .if1 .left) some in
+    let l = frame-refused (a .settings .version) (went .refusal .result) (a .frame .now) (a .machine) (a .memory .now) (a .reply .now) (λ (f : Fields). react (a .settings) (a .machine) f (a .frame .now) (a .memory .now)) (c .before .before .before .before .if1 .left) some in
     let r = rw (c .before .before .before .read .ensures) at (c .refused2 .ensures) in
     rw (← went .refusal .ensures) (r .0 ∙ l .0, r .1 ∙ l .1, l .2, l .3)
 
@@ -45,7 +45,8 @@ react-requires c κs = search needs
 keep-requires : tie.Need-keep-requires
 keep-requires c κs =
     let k = c .before .before .before in
-    rw (k .read .ensures) (fields-inside (k .before .before .before .before .before .before .args .frame .now))
+    let a = k .before .before .before .before .before .before .args in
+    rw (k .read .ensures) (fields-inside (a .settings .version) (a .frame .now))
 
 send-requires : tie.Need-send-requires
 send-requires c κs =
@@ -53,13 +54,14 @@ send-requires c κs =
     let a = k .before .before .before .before .before .before .args in
     let range = in-range (a .settings) (a .machine) (length (a .memory .now)) (length (a .reply .now)) (sym (k .before .before .refusal .ensures) ∙ k .before .if1 .left) in
     let octets : Octets (a .frame .now) = λ i l. omega (arith, k .before .before .before .before .before .shared-slice-known .given i) in
-    let short = decided-short (a .settings) (a .machine) (a .frame .now) (a .memory .now) (a .reply .now) (k .read .result) (c .before .before .before .react .result) (k .read .ensures) (c .before .before .before .react .ensures) octets (c .before .before .before .before .if2 .left) (range .1) in
-    (rw (k .read .ensures) (fields-inside (a .frame .now)), (short, range .2))
+    let short = decided-short (a .settings .version) (a .settings) (a .machine) (a .frame .now) (a .memory .now) (a .reply .now) (k .read .result) (c .before .before .before .react .result) (k .read .ensures) (c .before .before .before .react .ensures) octets (c .before .before .before .before .if2 .left) (range .1) in
+    (rw (k .read .ensures) (fields-inside (a .settings .version) (a .frame .now)), (short, range .2))
 
-store-requires : tie.Need-store-requires
-store-requires c κs =
+fill-requires : tie.Need-fill-requires
+fill-requires c κs =
     let k = c .before .before .before .before .before .before .before .before .before .before in
-    rw (k .read .ensures) (fields-inside (k .before .before .before .before .before .before .args .frame .now))
+    let a = k .before .before .before .before .before .before .args in
+    rw (k .read .ensures) (fields-inside (a .settings .version) (a .frame .now))
 
 same-length : tie.Need-same-length
 same-length c = search needs
@@ -74,10 +76,10 @@ returns-3 c =
     let a = k .before .before .before .before .before .before .args in
     let next = went .before .before .before .before .react in
     let kept = went .before .before .before .keep .ensures in
-    let l = decided-leaves (a .settings) (a .machine) (a .frame .now) (a .memory .now) (a .reply .now) (k .read .result) (next .result) (k .read .ensures) (next .ensures) (rw kept at (went .send .ensures)) (c .before .before .store .ensures) in
+    let l = decided-leaves (a .settings .version) (a .settings) (a .machine) (a .frame .now) (a .memory .now) (a .reply .now) (k .read .result) (next .result) (k .read .ensures) (next .ensures) (rw kept at (went .send .ensures)) (rw kept at (c .before .before .fill .ensures)) in
     let none = rw (k .read .ensures) at (went .before .before .before .before .before .if2 .left) in
     rw (← k .before .before .refusal .ensures)
-    (frame-accepted (k .before .before .refusal .result) (a .frame .now) (a .machine) (a .memory .now) (a .reply .now) (λ (f : Fields). react (a .settings) (a .machine) f (a .frame .now) (a .memory .now)) (k .before .if1 .left) none l)
+    (frame-accepted (a .settings .version) (k .before .before .refusal .result) (a .frame .now) (a .machine) (a .memory .now) (a .reply .now) (λ (f : Fields). react (a .settings) (a .machine) f (a .frame .now) (a .memory .now)) (k .before .if1 .left) none l)
 
 pub frame-spec : {M : Type 1} → statement M
 frame-spec =
@@ -92,7 +94,7 @@ frame-spec =
     react-requires
     keep-requires
     send-requires
-    store-requires
+    fill-requires
     same-length
     same-length-2
     returns-3)

@@ -29,27 +29,89 @@ returns-4 : tie.Need-returns-4
 unfolding first
 returns-4 c =
     let a = c .before .before .before .before .before .before .before .args in
-    rw (sized (a .settings) (a .machine) (a .size) (a .room) (omega arith) (omega arith) (omega arith), sym (c .before .allowed .ensures) ∙ not-true _ (c .if4 .taken))
+    rw (
+      sized (a .settings) (a .machine) (a .size) (a .room) (omega arith) (omega arith) (omega arith),
+      sym (c .before .allowed .ensures) ∙ not-true _ (c .if4 .taken),
+    )
+
+known-requires : tie.Need-known-requires
+known-requires c κs = search needs
 
 returns-5 : tie.Need-returns-5
 unfolding first
 returns-5 c =
     let a = c .before .before .before .before .before .before .before .before .before .args in
-    rw (sized (a .settings) (a .machine) (a .size) (a .room) (omega arith) (omega arith) (omega arith), sym (c .before .before .before .allowed .ensures) ∙ not-false _ (c .before .before .if4 .left), lt-leb (a .machine .state) 4 (omega arith))
+    rw (
+      sized (a .settings) (a .machine) (a .size) (a .room) (omega arith) (omega arith) (omega arith),
+      sym (c .before .before .before .allowed .ensures) ∙ not-false _ (c .before .before .if4 .left),
+      sym (c .before .known .ensures) ∙ not-true _ (c .if5 .taken),
+    )
 
 returns-6 : tie.Need-returns-6
 unfolding first
 returns-6 c =
-    let a = c .before .before .before .before .before .before .before .before .before .before .args in
-    rw (sized (a .settings) (a .machine) (a .size) (a .room) (omega arith) (omega arith) (omega arith), sym (c .before .before .before .before .allowed .ensures) ∙ not-false _ (c .before .before .before .if4 .left), le-leb (a .machine .state) 4 (omega arith), lt-leb 1500 (a .room) (omega arith))
+    let a = c .before .before .before .before .before .before .before .before .before .before .before .args in
+    rw (
+      sized (a .settings) (a .machine) (a .size) (a .room) (omega arith) (omega arith) (omega arith),
+      sym (c .before .before .before .before .before .allowed .ensures) ∙ not-false _ (c .before .before .before .before .if4 .left),
+      sym (c .before .before .before .known .ensures) ∙ not-false _ (c .before .before .if5 .left),
+      lt-leb (a .machine .state) 4 (omega arith),
+    )
+
+roomy-requires : tie.Need-roomy-requires
+roomy-requires c κs = search needs
 
 returns-7 : tie.Need-returns-7
 unfolding first
 returns-7 c =
-    let a = c .before .before .before .before .before .before .before .before .before .before .args in
-    rw (sized (a .settings) (a .machine) (a .size) (a .room) (omega arith) (omega arith) (omega arith), sym (c .before .before .before .before .allowed .ensures) ∙ not-false _ (c .before .before .before .if4 .left), le-leb (a .machine .state) 4 (omega arith), le-leb 1500 (a .room) (omega arith))
+    let a = c .before .before .before .before .before .before .before .before .before .before .before .before .before .args in
+    rw (
+      sized (a .settings) (a .machine) (a .size) (a .room) (omega arith) (omega arith) (omega arith),
+      sym (c .before .before .before .before .before .before .before .allowed .ensures) ∙ not-false _ (c .before .before .before .before .before .before .if4 .left),
+      sym (c .before .before .before .before .before .known .ensures) ∙ not-false _ (c .before .before .before .before .if5 .left),
+      le-leb (a .machine .state) 4 (omega arith),
+      sym (c .before .roomy .ensures) ∙ not-true _ (c .if7 .taken),
+    )
+
+returns-8 : tie.Need-returns-8
+unfolding first
+returns-8 c =
+    let a = c .before .before .before .before .before .before .before .before .before .before .before .before .before .before .args in
+    rw (
+      sized (a .settings) (a .machine) (a .size) (a .room) (omega arith) (omega arith) (omega arith),
+      sym (c .before .before .before .before .before .before .before .before .allowed .ensures) ∙ not-false _ (c .before .before .before .before .before .before .before .if4 .left),
+      sym (c .before .before .before .before .before .before .known .ensures) ∙ not-false _ (c .before .before .before .before .before .if5 .left),
+      le-leb (a .machine .state) 4 (omega arith),
+      sym (c .before .before .roomy .ensures) ∙ not-false _ (c .before .if7 .left),
+      lt-leb 1500 (a .room) (omega arith),
+    )
+
+returns-9 : tie.Need-returns-9
+unfolding first
+returns-9 c =
+    let a = c .before .before .before .before .before .before .before .before .before .before .before .before .before .before .args in
+    rw (
+      sized (a .settings) (a .machine) (a .size) (a .room) (omega arith) (omega arith) (omega arith),
+      sym (c .before .before .before .before .before .before .before .before .allowed .ensures) ∙ not-false _ (c .before .before .before .before .before .before .before .if4 .left),
+      sym (c .before .before .before .before .before .before .known .ensures) ∙ not-false _ (c .before .before .before .before .before .if5 .left),
+      le-leb (a .machine .state) 4 (omega arith),
+      sym (c .before .before .roomy .ensures) ∙ not-false _ (c .before .if7 .left),
+      le-leb 1500 (a .room) (omega arith),
+    )
 
 pub refusal-spec : {M : Type 1} → statement M
 refusal-spec =
     tie.close
-    (tie.spec returns returns-2 returns-3 allowed-requires returns-4 returns-5 returns-6 returns-7)
+    (tie.spec
+    returns
+    returns-2
+    returns-3
+    allowed-requires
+    returns-4
+    known-requires
+    returns-5
+    returns-6
+    roomy-requires
+    returns-7
+    returns-8
+    returns-9)

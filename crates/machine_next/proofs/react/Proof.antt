@@ -11,6 +11,9 @@ use borrow.Author.Needs.{needs}
 use Rattle.machine_next.proofs.react.Statement.{statement}
 use Rattle.machine_next.proofs.react.Tie as tie
 
+cast-fitting : tie.Need-cast-fitting
+cast-fitting c = search needs
+
 fitting-requires : tie.Need-fitting-requires
 fitting-requires c κs = search needs
 
@@ -19,6 +22,9 @@ in-state-requires c κs = search needs
 
 on-load-requires : tie.Need-on-load-requires
 on-load-requires c κs = search needs
+
+cast-fitting-2 : tie.Need-cast-fitting-2
+cast-fitting-2 c = search needs
 
 fitting-requires-2 : tie.Need-fitting-requires-2
 fitting-requires-2 c κs = search needs
@@ -31,6 +37,9 @@ in-state-requires-2 c κs = search needs
 
 on-load-requires-2 : tie.Need-on-load-requires-2
 on-load-requires-2 c κs = search needs
+
+parameters-fit-requires : tie.Need-parameters-fit-requires
+parameters-fit-requires c κs = search needs
 
 in-state-requires-3 : tie.Need-in-state-requires-3
 in-state-requires-3 c κs = search needs
@@ -52,23 +61,23 @@ ignored-requires c κs = search needs
 
 returns : tie.Need-returns
 returns c =
-    let a = c .before .before .before .before .args in
+    let a = c .before .before .before .before .before .args in
     let made = rw (c .before .before .fitting .ensures, c .before .in-state .ensures) at (c .on-load .ensures) in
-    λ frame memory p q. rw (eq-eqb _ _ (c .before .before .before .match .keys1), made) (does-load (a .settings) (a .f) frame memory (a .machine) (a .f .number) (a .f .«data_length») (a .size) (started (a .machine .parameters) (a .f .transfer)) p q)
+    λ frame memory p q. rw (eq-eqb _ _ (c .before .before .before .before .match .keys1), made) (does-load (a .settings) (a .f) frame memory (a .machine) (a .f .number) (a .f .«data_length») (a .size) (started (a .machine .parameters) (a .f .transfer)) p q)
 
 returns-2 : tie.Need-returns-2
 returns-2 c =
-    let a = c .before .before .before .before .before .args in
+    let a = c .before .before .before .before .before .before .args in
     let made = rw (c .before .before .before .fitting2 .ensures, c .before .in-state2 .ensures, c .before .before .after .ensures) at (c .on-load2 .ensures) in
-    λ frame memory p q. rw (ne-eqb (a .f .code) 0 (omega arith), eq-eqb _ _ (c .before .before .before .before .match .keys2), made)
+    λ frame memory p q. rw (ne-eqb (a .f .code) 0 (omega arith), eq-eqb _ _ (c .before .before .before .before .before .match .keys2), made)
     (does-load (a .settings) (a .f) frame memory (a .machine) (a .f .number) (a .f .«data_length») (a .size) (loading (a .machine .parameters) (after (a .f .number)) 0) p q)
 
 returns-3 : tie.Need-returns-3
 returns-3 c =
-    let a = c .before .before .before .args in
-    let made = rw (c .before .in-state3 .ensures) at (c .on-load3 .ensures) in
-    λ frame memory p q. rw (ne-eqb (a .f .code) 0 (omega arith), ne-eqb (a .f .code) 2 (omega arith), eq-eqb _ _ (c .before .before .match .keys3), made)
-    (does-parameters (a .settings) (a .f) frame memory (a .machine) (a .f .number) (a .f .transfer))
+    let a = c .before .before .before .before .args in
+    let made = rw (c .before .before .parameters-fit .ensures, c .before .in-state3 .ensures) at (c .on-load3 .ensures) in
+    λ frame memory p q. rw (ne-eqb (a .f .code) 0 (omega arith), ne-eqb (a .f .code) 2 (omega arith), eq-eqb _ _ (c .before .before .before .match .keys3), made)
+    (does-parameters (a .settings) (a .f) frame memory (a .machine) (a .f .number) (a .f .transfer) (a .size) q)
 
 returns-4 : tie.Need-returns-4
 returns-4 c =
@@ -100,13 +109,16 @@ pub react-spec : {M : Type 1} → statement M
 react-spec =
     tie.close
     (tie.spec
+    cast-fitting
     fitting-requires
     in-state-requires
     on-load-requires
+    cast-fitting-2
     fitting-requires-2
     after-requires
     in-state-requires-2
     on-load-requires-2
+    parameters-fit-requires
     in-state-requires-3
     on-load-requires-3
     on-dump-requires

@@ -23,7 +23,7 @@ unfolding layout low
 returns c =
     let went = c .before .before .before .before .before .before in
     let a = went .args in
-    sent-by (requestDumpService (a .settings .device) 1 (a .size) 0 []) (a .reply .now) refl (omega arith) (went .pre) (c .before .before .request-dump-service .ensures)
+    sent-by 0 (requestDumpService (a .settings .device) 1 (a .size) 0 []) (a .reply .now) refl (omega arith) (went .pre) (c .before .before .request-dump-service .ensures 0)
 
 pub ask-dump-spec : {M : Type 1} → statement M
 ask-dump-spec =

@@ -25,7 +25,7 @@ unfolding layout
 returns c =
     let went = c .before .before .before .before .before .before .before in
     let a = went .args in
-    sent-by (requestProgram (a .settings .device) 1 2 255 [] (a .settings .processor) []) (a .reply .now) refl (omega arith) (went .pre) (c .before .before .request-program .ensures)
+    sent-by 0 (requestProgram (a .settings .device) 1 2 255 [] (a .settings .processor) []) (a .reply .now) refl (omega arith) (went .pre) (c .before .before .request-program .ensures 0)
 
 pub ask-load-spec : {M : Type 1} → statement M
 ask-load-spec =

@@ -44,7 +44,7 @@ returns c =
     let bytes = bytesFrom (a .memory .now) (a .address) (a .n) in
     let f : List ℕ = 14 ∷ getD p 0 0 ∷ getD p 1 0 ∷ getD p 2 0 ∷ getD p 3 0 ∷ bytes in
     let e : f ≡ layout (dumpData (a .address) bytes) = rw (went .low32 .ensures) in
-    wrote (dumpData (a .address) bytes) (a .out .now) f (c .before .before .lay .ensures) e refl
+    λ version. wrote version (dumpData (a .address) bytes) (a .out .now) f (c .before .before .lay .ensures) e refl
 
 pub dump-data-spec : {M : Type 1} → statement M
 dump-data-spec =

@@ -63,7 +63,7 @@ unfolding find
 returns-3 c =
     let went = c .before in
     let long = rw (went .match .keys3) at (went .before .before .pre) in
-    rw (went .match .keys3) (rw (le-ltb _ 6 long) at (c .request-program .ensures))
+    rw (went .match .keys3) (rw (le-ltb _ 6 long) at (c .request-program .ensures (c .before .before .before .args .version)))
 
 returns-4 : tie.Need-returns-4
 unfolding find

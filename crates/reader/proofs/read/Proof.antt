@@ -24,8 +24,8 @@ refused-requires-2 c κs = search needs
 returns-2 : tie.Need-returns-2
 returns-2 c =
     let went = c .before .before in
-    let s = went .before .before .before .before .args .s .now in
-    rw (← refuses s _ (went .refusal .ensures) (went .before .before .if1 .left) (c .before .if2 .taken)) (c .refused2 .ensures)
+    let a = went .before .before .before .before .args in
+    rw (← refuses (a .version) (a .s .now) _ (went .refusal .ensures) (went .before .before .if1 .left) (c .before .if2 .taken)) (c .refused2 .ensures)
 
 shared-slice-read-by-code : tie.Need-shared-slice-read-by-code
 shared-slice-read-by-code c = search needs
@@ -33,13 +33,14 @@ shared-slice-read-by-code c = search needs
 by-code-requires : tie.Need-by-code-requires
 by-code-requires c κs =
     let went = c .before .before in
-    long (went .before .before .before .before .args .s .now) _ (went .refusal .ensures) (c .before .if2 .left)
+    let a = went .before .before .before .before .args in
+    long (a .version) (a .s .now) _ (went .refusal .ensures) (c .before .if2 .left)
 
 returns-3 : tie.Need-returns-3
 returns-3 c =
     let went = c .before .before .before in
-    let s = went .before .before .before .before .args .s .now in
-    rw (← right s _ (went .refusal .ensures) (went .before .before .if1 .left) (c .before .before .if2 .left)) (c .by-code .ensures)
+    let a = went .before .before .before .before .args in
+    rw (← right (a .version) (a .s .now) _ (went .refusal .ensures) (went .before .before .if1 .left) (c .before .before .if2 .left)) (c .by-code .ensures)
 
 pub read-spec : {M : Type 1} → statement M
 read-spec =

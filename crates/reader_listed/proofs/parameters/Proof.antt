@@ -27,7 +27,7 @@ returns-2 : tie.Need-returns-2
 returns-2 c =
     let went = c .before .before in
     let s = went .before .before .before .before .args .s .now in
-    let e : went .ended .result ≡ ended (walk Kind (drop 2 s)) = went .ended .ensures ∙ ap ended (went .before .walk .ensures) in
+    let e : went .ended .result ≡ ended (walk (went .before .before .before .before .args .version) Kind (drop 2 s)) = went .ended .ensures ∙ ap ended (went .before .walk .ensures) in
     rw (le-ltb _ _ (went .before .before .if1 .left), ne-eqb _ _ (rw e at (c .before .if2 .taken)), ← e) (c .refused2 .ensures)
 
 shared-slice-read-f : tie.Need-shared-slice-read-f
@@ -46,7 +46,7 @@ returns-3 : tie.Need-returns-3
 returns-3 c =
     let went = c .before .before .before in
     let s = went .before .before .before .before .args .s .now in
-    let e : ended (walk Kind (drop 2 s)) ≡ 0 = sym (went .ended .ensures ∙ ap ended (went .before .walk .ensures)) ∙ c .before .before .if2 .left in
+    let e : ended (walk (went .before .before .before .before .args .version) Kind (drop 2 s)) ≡ 0 = sym (went .ended .ensures ∙ ap ended (went .before .walk .ensures)) ∙ c .before .before .if2 .left in
     rw (le-ltb _ _ (went .before .before .if1 .left), c .word32 .ensures, e)
 
 pub parameters-spec : {M : Type 1} → statement M

@@ -18,15 +18,15 @@ by-test : (early : Bool) (f : Fields) → cond early (refusedFields 1) f ≡ con
 by-test true f = refl
 by-test false f = refl
 
-in-turn : (s : List ℕ) (n : ℕ) {r : Fields} → 6 ≤ length s → programListed (byte s 3) ≡ true → formListed (byte s 4) ≡ true → n ≡ idLength (byte s 4)
-    → r ≡ cond (ltb (length s) (6 + n)) (refusedFields 1) (numbers 0 8 6 6 s) → r ≡ cond (ltb (length s) 6) (refusedFields 1) (judged 8 6 6 s)
-in-turn s n l p f i e = rw (le-ltb (length s) 6 l, p, f) ((rw i at e) ∙ by-test (ltb (length s) (6 + idLength (byte s 4))) (numbers 0 8 6 6 s))
+in-turn : (version : ℕ) (s : List ℕ) (n : ℕ) {r : Fields} → 6 ≤ length s → programListed (byte s 3) ≡ true → formListed (byte s 4) ≡ true → n ≡ idLength (byte s 4)
+    → r ≡ cond (ltb (length s) (6 + n)) (refusedFields 1) (numbers 0 8 6 6 s) → r ≡ cond (ltb (length s) 6) (refusedFields 1) (judged version 8 6 6 s)
+in-turn version s n l p f i e = rw (le-ltb (length s) 6 l, p, f) ((rw i at e) ∙ by-test (ltb (length s) (6 + idLength (byte s 4))) (numbers 0 8 6 6 s))
 
 refused-requires : tie.Need-refused-requires
 refused-requires c κs = search needs
 
 returns : tie.Need-returns
-returns c = rw (lt-ltb _ _ (c .before .if1 .taken)) (c .refused .ensures)
+returns c = λ version. rw (lt-ltb _ _ (c .before .if1 .taken)) (c .refused .ensures)
 
 shared-slice-read-program : tie.Need-shared-slice-read-program
 shared-slice-read-program c = search needs
@@ -37,7 +37,7 @@ refused-requires-2 c κs = search needs
 returns-2 : tie.Need-returns-2
 returns-2 c =
     let went = c .before .before .before in
-    rw (le-ltb _ _ (went .if1 .left), lt-leb _ _ (c .before .if2 .taken)) (c .refused2 .ensures)
+    λ version. rw (le-ltb _ _ (went .if1 .left), lt-leb _ _ (c .before .if2 .taken)) (c .refused2 .ensures)
 
 shared-slice-read-form : tie.Need-shared-slice-read-form
 shared-slice-read-form c = search needs
@@ -55,7 +55,7 @@ returns-3 c =
     let went = c .before .before .before in
     let s = went .before .before .before .before .args .s .now in
     let few = le-leb _ _ (c .before .if3 .taken) in
-    in-turn s (getD s 4 0) (went .before .before .if1 .left) (le-leb _ _ (went .if2 .left)) (rw few) (rw few) (c .with-id .ensures)
+    λ version. in-turn version s (getD s 4 0) (went .before .before .if1 .left) (le-leb _ _ (went .if2 .left)) (rw few) (rw few) (c .with-id .ensures)
 
 refused-requires-3 : tie.Need-refused-requires-3
 refused-requires-3 c κs = search needs
@@ -63,7 +63,7 @@ refused-requires-3 c κs = search needs
 returns-4 : tie.Need-returns-4
 returns-4 c =
     let went = c .before .before .before .before in
-    rw (le-ltb _ _ (went .before .before .if1 .left), le-leb _ _ (went .if2 .left), lt-leb _ _ (c .before .before .if3 .left), lt-leb _ _ (c .before .if4 .taken)) (c .refused3 .ensures)
+    λ version. rw (le-ltb _ _ (went .before .before .if1 .left), le-leb _ _ (went .if2 .left), lt-leb _ _ (c .before .before .if3 .left), lt-leb _ _ (c .before .if4 .taken)) (c .refused3 .ensures)
 
 with-id-requires-2 : tie.Need-with-id-requires-2
 with-id-requires-2 c κs =
@@ -75,7 +75,7 @@ returns-5 c =
     let went = c .before .before .before .before in
     let s = went .before .before .before .before .args .s .now in
     let many = lt-leb _ _ (c .before .before .if3 .left) in
-    in-turn s 0 (went .before .before .if1 .left) (le-leb _ _ (went .if2 .left)) (rw (many, le-leb _ _ (c .before .if4 .left))) (rw many) (c .with-id2 .ensures)
+    λ version. in-turn version s 0 (went .before .before .if1 .left) (le-leb _ _ (went .if2 .left)) (rw (many, le-leb _ _ (c .before .if4 .left))) (rw many) (c .with-id2 .ensures)
 
 pub request-program-spec : {M : Type 1} → statement M
 request-program-spec =

@@ -11,7 +11,7 @@ same-length c = search needs
 
 returns : tie.Need-returns
 unfolding write layout
-returns c = c .before .before .alone .ensures
+returns c = λ version. c .before .before .alone .ensures
 
 pub dump-complete-spec : {M : Type 1} → statement M
 dump-complete-spec = tie.close (tie.spec alone-requires same-length returns)

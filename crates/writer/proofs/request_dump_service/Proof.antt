@@ -30,7 +30,7 @@ same-length c = search needs
 
 returns : tie.Need-returns
 unfolding write layout low
-returns c = rw (c .before .before .before .before .before .low32 .ensures) at (c .before .before .lay .ensures)
+returns c = λ version. rw (c .before .before .before .before .before .low32 .ensures) at (c .before .before .lay .ensures)
 
 pub request-dump-service-spec : {M : Type 1} → statement M
 request-dump-service-spec =

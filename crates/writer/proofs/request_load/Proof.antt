@@ -17,7 +17,7 @@ same-length c = search needs
 
 returns : tie.Need-returns
 unfolding write layout
-returns c = c .before .before .lay .ensures
+returns c = λ version. c .before .before .lay .ensures
 
 pub request-load-spec : {M : Type 1} → statement M
 request-load-spec =

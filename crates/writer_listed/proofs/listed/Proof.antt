@@ -12,7 +12,7 @@ whole-requires : tie.Need-whole-requires
 whole-requires c κs = search needs
 
 returns : tie.Need-returns
-returns c = c .whole .ensures ∙ ap whole (c .before .walk .ensures) ∙ sym (listed-as (c .before .before .before .args .entries .now))
+returns c = c .whole .ensures ∙ ap whole (c .before .walk .ensures) ∙ sym (listed-as (c .before .before .before .args .version) (c .before .before .before .args .entries .now))
 
 pub listed-spec : {M : Type 1} → statement M
 listed-spec = tie.close (tie.spec walk-requires whole-requires returns)

@@ -19,23 +19,23 @@ returns : tie.Need-returns
 unfolding write
 returns c =
     let a = c .before .before .before .before .args in
-    let no : entryList (a .entries .now) .listed ≡ false = sym (c .before .listed .ensures) ∙ not-true _ (c .if1 .taken) in
+    let no : entryList (a .entries .now) .listed (a .version) ≡ false = sym (c .before .listed .ensures) ∙ not-true _ (c .if1 .taken) in
     rw no (refl, refl)
 
 low32-requires : tie.Need-low32-requires
 low32-requires c κs = search needs
 
-array-read-t13 : tie.Need-array-read-t13
-array-read-t13 c = search needs
+array-read-t14 : tie.Need-array-read-t14
+array-read-t14 c = search needs
 
-array-read-t16 : tie.Need-array-read-t16
-array-read-t16 c = search needs
+array-read-t17 : tie.Need-array-read-t17
+array-read-t17 c = search needs
 
-array-read-t19 : tie.Need-array-read-t19
-array-read-t19 c = search needs
+array-read-t20 : tie.Need-array-read-t20
+array-read-t20 c = search needs
 
-array-read-t22 : tie.Need-array-read-t22
-array-read-t22 c = search needs
+array-read-t23 : tie.Need-array-read-t23
+array-read-t23 c = search needs
 
 slice-aggregate-lay-three : tie.Need-slice-aggregate-lay-three
 slice-aggregate-lay-three c = search needs
@@ -58,8 +58,8 @@ returns-2 c =
     let m = parameters (a .number) (a .entries .now) (a .transfer) in
     let f : List ℕ = 20 ∷ a .number ∷ (a .entries .now ++ (0 ∷ getD t 0 0 ∷ getD t 1 0 ∷ getD t 2 0 ∷ getD t 3 0 ∷ [])) in
     let e : f ≡ layout m = rw (went .low32 .ensures) in
-    let all : entryList (a .entries .now) .listed ≡ true = sym (went .before .before .listed .ensures) ∙ not-false _ (went .before .if1 .left) in
-    wrote m (a .out .now) f (c .before .before .lay-three .ensures) e (rw all)
+    let all : entryList (a .entries .now) .listed (a .version) ≡ true = sym (went .before .before .listed .ensures) ∙ not-false _ (went .before .if1 .left) in
+    wrote (a .version) m (a .out .now) f (c .before .before .lay-three .ensures) e (rw all)
 
 pub parameters-spec : {M : Type 1} → statement M
 parameters-spec =
@@ -68,10 +68,10 @@ parameters-spec =
     listed-requires
     returns
     low32-requires
-    array-read-t13
-    array-read-t16
-    array-read-t19
-    array-read-t22
+    array-read-t14
+    array-read-t17
+    array-read-t20
+    array-read-t23
     slice-aggregate-lay-three
     slice-aggregate-lay-three-2
     lay-three-requires

@@ -11,7 +11,7 @@ use Rattle.writer_listed.proofs.request_program.Tie as tie
 
 returns : tie.Need-returns
 unfolding write
-returns c = rw (lt-leb _ _ (c .if1 .taken)) (refl, refl)
+returns c = λ version. rw (lt-leb _ _ (c .if1 .taken)) (refl, refl)
 
 id-fits-requires : tie.Need-id-fits-requires
 id-fits-requires c κs = search needs
@@ -21,7 +21,7 @@ unfolding write
 returns-2 c =
     let a = c .before .before .before .before .before .before .args in
     let no : formListed (a .form) && eqb (length (a .id .now)) (idLength (a .form)) ≡ false = sym (c .before .id-fits .ensures) ∙ not-true _ (c .if2 .taken) in
-    rw (le-leb _ _ (c .before .before .if1 .left), no) (refl, refl)
+    λ version. rw (le-leb _ _ (c .before .before .if1 .left), no) (refl, refl)
 
 slice-aggregate-lay-four : tie.Need-slice-aggregate-lay-four
 slice-aggregate-lay-four c = search needs
@@ -41,7 +41,7 @@ returns-3 c =
     let went = c .before .before .before .before .before .before in
     let a = went .before .before .before .before .before .before .args in
     let fit : formListed (a .form) && eqb (length (a .id .now)) (idLength (a .form)) ≡ true = sym (went .before .id-fits .ensures) ∙ not-false _ (went .if2 .left) in
-    rw (le-leb _ _ (went .before .before .if1 .left), fit) (c .before .before .lay-four .ensures)
+    λ version. rw (le-leb _ _ (went .before .before .if1 .left), fit) (c .before .before .lay-four .ensures)
 
 pub request-program-spec : {M : Type 1} → statement M
 request-program-spec =
