@@ -180,63 +180,80 @@ void dump_offers_words(FILE *out, uint64_t offers)
 
 /* ---- Loads ----------------------------------------------------------- */
 
-/* Whether the machine stores the parameters in its memory too; and what is said then of what it keeps. */
+/* Whether a machine of the version that --version says stores the parameters in its memory too. The machine's own
+ * version cannot be seen from here. */
 static bool has_block(const mop_load_settings *s)
 {
     return s->with_parameters && s->version == MOP_VERSION_2_1;
 }
 
-static const char *in_block(const mop_load_settings *s)
-{
-    return has_block(s) ? ", in the parameter block laid over its memory too," : "";
-}
-
 static void block_words(FILE *out)
 {
     fprintf(out,
-        "The parameter block is %d bytes of the machine's memory, from %d below its top on; the top is the first even "
-        "address beyond memory.",
+        "The parameter block of version 2.1 is %d bytes of the machine's memory, from %d below its top on; the top is "
+        "the first even address beyond memory.",
         MOP_BLOCK_BYTES, MOP_BLOCK_BELOW_TOP);
 }
 
-/* A session that ended before its verdict, by a signal say. */
-static void load_open_words(FILE *out, const mop_load *session, const mop_load_settings *s, uint64_t n)
+/* What the machine's memory holds when all segments are confirmed; the parameters are too, or else were sent. */
+static void whole_words(FILE *out, bool confirmed)
 {
-    const uint64_t c = session->position;
+    fprintf(out,
+        "%s memory holds the whole image, with the parameter block laid over it if the machine %sis of version 2.1 "
+        "(see --version). ",
+        confirmed ? "Its" : "The machine's", confirmed ? "" : "took the parameters and ");
+}
+
+/* Parameters that were sent and not answered. */
+static void unanswered_words(FILE *out, uint32_t transfer)
+{
+    whole_words(out, false);
+    fprintf(out,
+        "If it took them it keeps them and was started at 0x%08" PRIX32 "; if they were lost, or it rejected or did "
+        "not understand them, it was not started.",
+        transfer);
+}
+
+/* A session that ended before its verdict, by a signal say. */
+static void load_open_words(FILE *out, const mop_load *session, const mop_load_settings *s, const mop_image *image)
+{
+    const uint64_t c = session->position, n = image->segments;
     if (session->waiting) {
         fputs("Not begun: no segment was sent, and the machine's memory is as it was.\n", out);
         return;
     }
     fprintf(out, "Broken off: %" PRIu64 " of %" PRIu64 " segments are confirmed. ", c < n ? c : n, n);
     if (!s->with_parameters)
-        fputs("The machine's memory holds those and perhaps the next one; if that was the last it was started.\n", out);
+        fputs("The machine's memory holds those and perhaps the next one; if the machine took the last one it was "
+              "started.",
+            out);
     else if (c < n)
         fputs("The machine's memory holds those and perhaps the next one, and it was not started: the parameters, "
-              "which start it, were not sent.\n",
+              "which start it, were not sent.",
             out);
     else
-        fprintf(out,
-            "The machine's memory holds the whole image; if the parameters arrived it keeps them%s and was started.\n",
-            in_block(s));
+        unanswered_words(out, image->transfer);
+    fputs("\n", out);
 }
 
 static void load_finished_words(FILE *out, const mop_load_settings *s, const mop_image *image)
 {
-    fprintf(out, "Finished: the machine confirmed all %" PRIu64 " segments%s. Its memory holds the whole image, ",
-        image->segments, s->with_parameters ? " and the parameters" : "");
-    if (has_block(s))
-        fputs(
-            "with the parameter block laid over it, it keeps the names and addresses that it was sent and no others, ",
-            out);
-    else if (s->with_parameters)
-        fputs("it keeps the names, addresses and time that it was sent and no others, ", out);
+    fprintf(out, "Finished: the machine confirmed all %" PRIu64 " segments", image->segments);
+    if (s->with_parameters) {
+        fputs(" and the parameters. ", out);
+        whole_words(out, true);
+        fprintf(out, "It keeps the %s that it was sent and no others, ",
+            has_block(s) ? "names and addresses" : "names, addresses and time");
+    } else {
+        fputs(". Its memory holds the whole image, ", out);
+    }
     fprintf(out, "and it was started at 0x%08" PRIX32 ".\n", image->transfer);
     if (!has_block(s))
         return;
     block_words(out);
-    fputs(
-        " It holds the node number and the names that were sent; of a name that was not, two zeros are written. Where "
-        "the image has bytes there a dump differs from the image file, as it should.\n",
+    fputs(" It holds the node number (the target address, with zeros for bytes that were not sent) and both names (of "
+          "one that was empty or not sent two zeros, and four bytes as they were). Where the image has bytes there a "
+          "dump may differ from the image file, and that is no error.\n",
         out);
 }
 
@@ -275,19 +292,20 @@ static void load_given_up_words(FILE *out, uint64_t c, uint64_t n, bool paramete
 
 static void load_unconfirmed_words(FILE *out, const mop_load_settings *s, uint64_t c, const mop_image *image)
 {
-    if (s->with_parameters)
-        fprintf(out,
-            "Unconfirmed: all %" PRIu64 " segments are confirmed, the parameters are not. The machine's memory holds "
-            "the whole image. If the parameters arrived it keeps them%s and was started at 0x%08" PRIX32 "; if not, it "
-            "was not started. A boot ROM may start the program without an answer, and a machine of another version "
-            "than --version says may pass the parameters by: look at the machine.\n",
-            image->segments, in_block(s), image->transfer);
-    else
-        fprintf(out,
-            "Unconfirmed: %" PRIu64 " of %" PRIu64 " segments are confirmed, all but the last. If the last arrived "
-            "the machine's memory holds the whole image and it was started at 0x%08" PRIX32 "; if not, it holds the "
-            "others and was not started. Many boot ROMs never answer the last segment: look at the machine.\n",
-            c, image->segments, image->transfer);
+    if (s->with_parameters) {
+        fprintf(out, "Unconfirmed: all %" PRIu64 " segments are confirmed, the parameters are not. ", image->segments);
+        unanswered_words(out, image->transfer);
+        fputs(" A boot ROM may start the program without an answer, and a machine of another version than --version "
+              "says may leave the parameters unanswered: look at the machine.\n",
+            out);
+        return;
+    }
+    fprintf(out,
+        "Unconfirmed: %" PRIu64 " of %" PRIu64 " segments are confirmed, all but the last. If the machine took the "
+        "last one its memory holds the whole image and it was started at 0x%08" PRIX32 "; if that was lost or rejected "
+        "its memory holds the others and it was not started. Many boot ROMs never answer the last segment: look at "
+        "the machine.\n",
+        c, image->segments, image->transfer);
 }
 
 void load_words(FILE *out, const mop_load *session, const mop_load_settings *settings, const mop_image *image)
@@ -306,7 +324,7 @@ void load_words(FILE *out, const mop_load *session, const mop_load_settings *set
         load_unconfirmed_words(out, settings, session->position, image);
         break;
     default:
-        load_open_words(out, session, settings, image->segments);
+        load_open_words(out, session, settings, image);
     }
 }
 

@@ -167,7 +167,7 @@ static void any_rom(mop_window *rom)
         rom->length = 0;
 }
 
-/* Its memory ends where the memory of this program does, so that a step beyond is seen. */
+/* Its memory is a block of just its length, so that the sanitizer sees a step beyond it. */
 static void make_machine(machine_end *m)
 {
     const size_t length = one_in(8) ? 1 + below(70) : 64 + below(one_in(2) ? 4 : MEMORY_MOST - 63);

@@ -2,6 +2,7 @@
 -- address of one byte, an empty target name and a host name. Memory is 7 everywhere at first.
 use Prim.Native.Nat.{ℕ}
 use mathlib.Core.Path.{_≡_, refl, ap}
+use mathlib.Core.Bool.{true}
 use mathlib.Core.List.{List, [], _∷_}
 use native.Mathlib.Omega.{arith}
 use lib.ListN.{replicate}
@@ -20,6 +21,7 @@ use Rattle.image.specs.Image.{many, segment}
 use Rattle.parameters.specs.Parameters.{latest, kept, none}
 use Rattle.block.specs.Block.{cell, block}
 use Rattle.machine_record.specs.declared.Settings.{Settings as MachineSettings}
+use Rattle.machine_record.specs.Record as machine
 use Rattle.machine_record.specs.Record.{loading, started}
 use Rattle.machine_next.specs.Next.{byNumber, onLoad, onParameters}
 use Rattle.load_record.specs.declared.Settings.{Settings as LoadSettings}
@@ -85,11 +87,14 @@ good = refl
 finished : after loadSettings machineSettings image string (replicate 64 7) events .host .verdict ≡ 1
 finished = ap (λ (w : World Session End). w .host .verdict) worked
 
+started-up : machine.is 4 (after loadSettings machineSettings image string (replicate 64 7) events .machine .machine) ≡ true
+started-up = ap (λ (w : World Session End). machine.is 4 (w .machine .machine)) worked
+
 pub worked-loaded : Loaded loadSettings machineSettings image string (replicate 64 7) (after loadSettings machineSettings image string (replicate 64 7) events .machine)
 worked-loaded = finished-load loadSettings machineSettings image string (replicate 64 7) accepted bytes good events finished
 
 pub worked-spelled : Spelled string 0 (after loadSettings machineSettings image string (replicate 64 7) events .machine .memory)
-worked-spelled = block-load loadSettings machineSettings image string (replicate 64 7) accepted bytes good refl refl events finished
+worked-spelled = block-load loadSettings machineSettings image string (replicate 64 7) accepted bytes good refl refl events started-up
 
 -- With a window of one byte at 6, which the block would leave as it is, the code 20 does not fit: nothing is written or kept, and both answers
 -- have error 1.

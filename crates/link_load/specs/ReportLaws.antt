@@ -1,15 +1,17 @@
 -- The report of a load: what every run from fresh ends keeps, and what it says of the machine.
 use Prim.Native.Nat.{ℕ, zero, suc, _+_, _≤_, _<_, min}
 use mathlib.Core.Path.{_≡_, refl, sym, subst, _∙_}
-use mathlib.Core.Bool.{Bool, true, false, cond as pick}
+use mathlib.Core.Bool.{Bool, true, false, false≢true, cond as pick}
 use mathlib.Core.List.{List}
-use mathlib.Core.Logic.{_⊎_, ⊎-map}
+use mathlib.Core.Logic.{_⊎_, ⊎-map, ⊎-elim}
 use native.Mathlib.Omega.{arith}
+use native.Mathlib.Decide.{ℕ-discrete}
 use lib.ListN.{length}
 use Rattle.octets.specs.Number.{Octets}
 use Rattle.directory.specs.Directory.{regions}
 use Rattle.image.specs.Image.{many, cutRefusal}
 use Rattle.machine_record.specs.declared.Settings.{Settings as MachineSettings}
+use Rattle.machine_record.specs.Record.{is}
 use Rattle.parameters.specs.Parameters.{kept as keptOf}
 use Rattle.machine_next.specs.Next.{parametersLaid}
 use Rattle.load_record.specs.declared.Session.{Session}
@@ -178,3 +180,25 @@ module _ (s : LoadSettings) (ms : MachineSettings) (file string old : List ℕ) 
 pub on-way : (s : LoadSettings) (ms : MachineSettings) (file string old : List ℕ) (w : World Session End) (v : ℕ) → 2 < v → w .host .verdict ≡ v → Report s ms file string old w
     → FirstIn s ms file string old (w .host .position) (w .machine) ⊎ FirstIn s ms file string old (w .host .position + 1) (w .machine)
 on-way s ms file string old w v l e r = r .otherwise (λ q. omega (arith, r .waiting q .1)) (λ q. omega arith) (λ q. omega arith)
+
+-- a machine that is started has all frames in
+pub started-all-in : (s : LoadSettings) (ms : MachineSettings) (file string old : List ℕ) → cutRefusal file (s .«segment_size») ≡ 0 → (w : World Session End)
+    → Report s ms file string old w → is 4 (w .machine .machine) ≡ true → FirstIn s ms file string old (frames s file) (w .machine)
+started-all-in s ms file string old ok w r e =
+    elim (ℕ-discrete (w .host .waiting) 1) [
+      | yes a ↦ all 0 (r .waiting a .0)
+      | no a ↦ elim (ℕ-discrete (w .host .verdict) 1) [
+        | yes b ↦ r .finished b
+        | no b ↦ elim (ℕ-discrete (w .host .verdict) 2) [
+          | yes c ↦ all (w .host .position) (r .rejected c)
+          | no c ↦ ⊎-elim (all (w .host .position)) (all (w .host .position + 1)) (r .otherwise a b c)
+        ]
+      ]
+    ]
+  where
+    all : (k : ℕ) → FirstIn s ms file string old k (w .machine) → FirstIn s ms file string old (frames s file) (w .machine)
+    all k i =
+        elim (ℕ-discrete k (frames s file)) [
+          | yes q ↦ subst (λ (n : ℕ). FirstIn s ms file string old n (w .machine)) q i
+          | no q ↦ absurd (false≢true (sym (i .not-started q) ∙ e))
+        ]

@@ -47,8 +47,8 @@ loads : (s : Settings) (m : Machine) (f : Fields) (frame memory : List ℕ) → 
 loads s m f frame memory (inl c) = (started (m .parameters) (f .transfer), rw (eq-eqb (f .code) 0 c))
 loads s m f frame memory (inr c) = (loading (m .parameters) (after (f .number)) 0, rw (ne-eqb (f .code) 0 (omega arith), eq-eqb (f .code) 2 c))
 
--- A load (code 0 or 2) that the machine takes by its number, and of which some address lies in the window, does not fit; it is not Started also
--- after a code 0.
+-- A load (code 0 or 2) that the machine takes by its number, and of which some address lies in the window, does not fit: the machine is not
+-- Started, not even after a code 0.
 pub touching-answered : (s : Settings) (m : Machine) (f : Fields) (frame memory : List ℕ) → (f .code ≡ 0) ⊎ (f .code ≡ 2) → heed m (f .number) ≡ 1
     → (a : ℕ) → InWindow (s .window) a → Lies (f .address) (length (part frame f)) a
     → react s m f frame memory ≡ unfit (m .parameters) (f .number) memory

@@ -1,4 +1,4 @@
--- The machine's ROM window (PROTOCOL 4, 'Machine end'): addresses that no load may touch.
+-- The machine's ROM window (PROTOCOL 4, 'Machine end'): addresses that no load and no parameter block may touch.
 use Prim.Native.Nat.{ℕ, _+_, _≤_, _<_, min, max}
 use mathlib.Core.Bool.{Bool, _||_}
 use lib.Dec.{eqb, leb, ltb}

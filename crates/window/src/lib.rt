@@ -1,4 +1,4 @@
-// The machine's ROM window (PROTOCOL 4, 'Machine end'): addresses that no load may touch.
+// The machine's ROM window (PROTOCOL 4, 'Machine end'): addresses that no load and no parameter block may touch.
 ghost use mathlib.Core.Path.{_≡_};
 ghost use Rattle.window.specs.Window.{none, allowed, touches};
 

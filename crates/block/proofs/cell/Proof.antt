@@ -1,3 +1,4 @@
+use native.Mathlib.Omega.{arith}
 use borrow.Author.Needs.{needs}
 use borrow.Author.Tests.{lt-ltb, le-ltb}
 use Rattle.block.specs.Block.{cell}
@@ -9,7 +10,7 @@ padded-requires c κs = search needs
 
 returns : tie.Need-returns
 unfolding cell
-returns c = rw (lt-ltb _ _ (c .before .if1 .taken), c .padded .ensures)
+returns c = let a = c .before .before .args in rw (lt-ltb (a .x) 2 (omega arith), c .padded .ensures)
 
 name-cell-requires : tie.Need-name-cell-requires
 name-cell-requires c κs = search needs
@@ -17,7 +18,8 @@ name-cell-requires c κs = search needs
 returns-2 : tie.Need-returns-2
 unfolding cell
 returns-2 c =
-    let w = c .before in rw (le-ltb _ _ (w .before .if1 .left), lt-ltb _ _ (w .if2 .taken)) (c .name-cell .ensures)
+    let a = c .before .before .before .args in
+    rw (le-ltb (a .x) 2 (omega arith), lt-ltb (a .x) 8 (omega arith)) (c .name-cell .ensures)
 
 name-cell-requires-2 : tie.Need-name-cell-requires-2
 name-cell-requires-2 c κs = search needs
@@ -25,12 +27,14 @@ name-cell-requires-2 c κs = search needs
 returns-3 : tie.Need-returns-3
 unfolding cell
 returns-3 c =
-    let w = c .before in
-    rw (le-ltb _ _ (w .before .before .if1 .left), le-ltb _ _ (w .before .if2 .left), lt-ltb _ _ (w .if3 .taken)) (c .name-cell2 .ensures)
+    let a = c .before .before .before .before .args in
+    rw (le-ltb (a .x) 2 (omega arith), le-ltb (a .x) 8 (omega arith), lt-ltb (a .x) 14 (omega arith)) (c .name-cell2 .ensures)
 
 returns-4 : tie.Need-returns-4
 unfolding cell
-returns-4 c = rw (le-ltb _ _ (c .before .before .if1 .left), le-ltb _ _ (c .before .if2 .left), le-ltb _ _ (c .if3 .left))
+returns-4 c =
+    let a = c .before .before .before .args in
+    rw (le-ltb (a .x) 2 (omega arith), le-ltb (a .x) 8 (omega arith), le-ltb (a .x) 14 (omega arith))
 
 pub cell-spec : {M : Type 1} → statement M
 cell-spec =

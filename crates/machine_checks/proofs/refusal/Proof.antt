@@ -1,11 +1,29 @@
-use mathlib.Core.Path.{sym, _∙_}
+use mathlib.Core.Path.{_≡_, sym, _∙_}
+use mathlib.Core.List.{[], _∷_}
 use native.Mathlib.Omega.{arith}
 use borrow.Author.Tests.{le-leb, lt-leb, not-true, not-false}
-use Rattle.step.specs.Step.{first}
+use lib.Dec.{leb}
+use Rattle.step.specs.Step.{unless, first}
+use Rattle.machine_checks.specs.Checks.{refusal}
 use Rattle.machine_checks.specs.Laws.{sized}
 use borrow.Author.Needs.{needs}
 use Rattle.machine_checks.proofs.refusal.Statement.{statement}
 use Rattle.machine_checks.proofs.refusal.Tie as tie
+
+-- past all tests but the last
+past : (c : tie.Else7)
+    → let a = c .before .before .before .before .before .before .before .before .before .before .before .before .before .args in
+    refusal (a .settings) (a .machine) (a .size) (a .room) ≡ first (unless (leb 1500 (a .room)) 9 ∷ [])
+unfolding first
+past c =
+    let a = c .before .before .before .before .before .before .before .before .before .before .before .before .before .args in
+    rw (
+      sized (a .settings) (a .machine) (a .size) (a .room) (omega arith) (omega arith) (omega arith),
+      sym (c .before .before .before .before .before .before .before .allowed .ensures) ∙ not-false _ (c .before .before .before .before .before .before .if4 .left),
+      sym (c .before .before .before .before .before .known .ensures) ∙ not-false _ (c .before .before .before .before .if5 .left),
+      le-leb (a .machine .state) 4 (omega arith),
+      sym (c .before .roomy .ensures) ∙ not-false _ (c .if7 .left),
+    )
 
 returns : tie.Need-returns
 unfolding first
@@ -75,29 +93,11 @@ returns-7 c =
 
 returns-8 : tie.Need-returns-8
 unfolding first
-returns-8 c =
-    let a = c .before .before .before .before .before .before .before .before .before .before .before .before .before .before .args in
-    rw (
-      sized (a .settings) (a .machine) (a .size) (a .room) (omega arith) (omega arith) (omega arith),
-      sym (c .before .before .before .before .before .before .before .before .allowed .ensures) ∙ not-false _ (c .before .before .before .before .before .before .before .if4 .left),
-      sym (c .before .before .before .before .before .before .known .ensures) ∙ not-false _ (c .before .before .before .before .before .if5 .left),
-      le-leb (a .machine .state) 4 (omega arith),
-      sym (c .before .before .roomy .ensures) ∙ not-false _ (c .before .if7 .left),
-      lt-leb 1500 (a .room) (omega arith),
-    )
+returns-8 c = rw (past (c .before), lt-leb 1500 (c .before .before .before .before .before .before .before .before .before .before .before .before .before .before .args .room) (omega arith))
 
 returns-9 : tie.Need-returns-9
 unfolding first
-returns-9 c =
-    let a = c .before .before .before .before .before .before .before .before .before .before .before .before .before .before .args in
-    rw (
-      sized (a .settings) (a .machine) (a .size) (a .room) (omega arith) (omega arith) (omega arith),
-      sym (c .before .before .before .before .before .before .before .before .allowed .ensures) ∙ not-false _ (c .before .before .before .before .before .before .before .if4 .left),
-      sym (c .before .before .before .before .before .before .known .ensures) ∙ not-false _ (c .before .before .before .before .before .if5 .left),
-      le-leb (a .machine .state) 4 (omega arith),
-      sym (c .before .before .roomy .ensures) ∙ not-false _ (c .before .if7 .left),
-      le-leb 1500 (a .room) (omega arith),
-    )
+returns-9 c = rw (past (c .before), le-leb 1500 (c .before .before .before .before .before .before .before .before .before .before .before .before .before .before .args .room) (omega arith))
 
 pub refusal-spec : {M : Type 1} → statement M
 refusal-spec =
