@@ -3,7 +3,7 @@
 use Prim.Native.Nat.{ℕ, _+_, _-_}
 use mathlib.Core.Bool.{Bool, false, _&&_, cond as pick}
 use lib.Dec.{eqb, leb}
-use Rattle.version.specs.Version.{older}
+use Rattle.version.specs.Version.{byVersion}
 use Rattle.host_time.specs.HostTime.{field}
 use Rattle.entries_next.specs.declared.Place.{Place}
 use Rattle.entries_next.specs.declared.Place.the-variants.{Kind, Size, Value, Time, Transfer, Outside, Excess}
@@ -11,13 +11,13 @@ use Rattle.entries_next.specs.declared.Place.the-variants.{Kind, Size, V
 -- ---- the entry rules of a version
 -- the longest name, the longest address, and the last entry type
 abbrev pub longestName : ℕ → ℕ
-longestName version = pick (older version) 6 16
+longestName version = byVersion version 6 16
 
 abbrev pub longestAddress : ℕ → ℕ
-longestAddress version = pick (older version) 2 6
+longestAddress version = byVersion version 2 6
 
 abbrev pub lastKind : ℕ → ℕ
-lastKind version = pick (older version) 4 5
+lastKind version = byVersion version 4 5
 
 -- an entry of this type may have this length
 abbrev pub listed : ℕ → ℕ → ℕ → Bool

@@ -25,21 +25,21 @@ pub enum Place {
 fn longest_name(version: u8) -> u8
     ensures { λ r. ⌜ r ≡ longestName version ⌝ }
 {
-    if version::older(version) { 6 } else { 16 }
+    version::by_version(version, 6, 16)
 }
 
 // The longest address of a version.
 fn longest_address(version: u8) -> u8
     ensures { λ r. ⌜ r ≡ longestAddress version ⌝ }
 {
-    if version::older(version) { 2 } else { 6 }
+    version::by_version(version, 2, 6)
 }
 
 // The last entry type of a version.
 fn last_kind(version: u8) -> u8
     ensures { λ r. ⌜ r ≡ lastKind version ⌝ }
 {
-    if version::older(version) { 4 } else { 5 }
+    version::by_version(version, 4, 5)
 }
 
 // An entry of this type may have this length.

@@ -47,7 +47,7 @@ pub record Report (s : LoadSettings) (ms : MachineSettings) (file string old : L
 abbrev pub Entry : List ℕ → ℕ → Region → Type 0
 Entry file k r = getElem? (regions file) k ≡ some r
 
--- a load of version 2.1 with a parameter string lays the parameter block over the image
+-- a load with a parameter string, to a machine of version 2.1, lays the parameter block over the image
 abbrev pub laysBlock : LoadSettings → MachineSettings → Bool
 laysBlock s ms = given s && older (ms .version)
 

@@ -1,6 +1,6 @@
 -- The versions of the protocol, by their numbers (PROTOCOL, at its beginning).
 use Prim.Native.Nat.{ℕ}
-use mathlib.Core.Bool.{Bool, _||_}
+use mathlib.Core.Bool.{Bool, _||_, cond as pick}
 use lib.Dec.{eqb}
 
 -- version 2.1 has the number 21, version 3.0.0 the number 30
@@ -17,3 +17,7 @@ older version = eqb version v21
 -- the version is one of the two
 abbrev pub known : ℕ → Bool
 known version = eqb version v21 || eqb version v30
+
+-- a number that version 2.1 has otherwise
+abbrev pub byVersion : ℕ → ℕ → ℕ → ℕ
+byVersion version underOlder otherwise = pick (older version) underOlder otherwise
