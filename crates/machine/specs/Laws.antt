@@ -84,15 +84,19 @@ module _ (version : ℕ) (s : Settings) (m : Machine) (frame memory reply : List
   decided-short o z r =
       subst Short (sym (ap (λ (act : Act Machine (List ℕ)). act .sending) decided)) (react-short version s m memory frame o (rw h at z) r)
 
+  -- what is stored of the machine that keeps the entries is what they say
+  kept-stored : (b : Bool) → pick b (stored s (pick b (keeping (next .machine) (kept (part frame f))) (next .machine) .parameters) memory) memory
+      ≡ pick b (stored s (kept (part frame f)) memory) memory
+  kept-stored true = refl
+  kept-stored false = refl
+
   -- what is kept and sent, then what goes to memory, is what the machine does with the frame
-  pub decided-leaves : {m′ : Machine} {answer : Written} {memory′ reply′ : List ℕ}
-      → Leaves (gives (acts (keeps f frame next) memory (sending f frame memory (next .sends))) reply) m′ answer memory reply′
-      → memory′ ≡ pick (next .takes) (deposited (s .window) (part frame f) (f .address) memory) (pick (next .keeps) (stored s (keeps f frame next .parameters) memory) memory)
+  pub decided-leaves : {keeper m′ : Machine} {answer : Written} {memory′ reply′ : List ℕ} → keeper ≡ keeps f frame next
+      → Leaves (gives (acts keeper memory (sending f frame memory (next .sends))) reply) m′ answer memory reply′
+      → memory′ ≡ pick (next .takes) (deposited (s .window) (part frame f) (f .address) memory) (pick (next .keeps) (stored s (keeper .parameters) memory) memory)
       → Leaves (gives (react s m (fields version frame) frame memory) reply) m′ answer memory′ reply′
-  decided-leaves {m′} {answer} {memory′} {reply′} l e =
+  decided-leaves {keeper} {m′} {answer} {memory′} {reply′} k l e =
+      let data-in = deposited (s .window) (part frame f) (f .address) memory in
+      let same = ap (λ (x : Machine). pick (next .takes) data-in (pick (next .keeps) (stored s (x .parameters) memory) memory)) k in
       subst (λ (act : Act Machine (List ℕ)). Leaves (gives act reply) m′ answer memory′ reply′) decided
-      (lent-changed (sending f frame memory (next .sends)) (keeps f frame next) memory _ reply l (e ∙ ap (pick (next .takes) (deposited (s .window) (part frame f) (f .address) memory)) (kept-stored (next .keeps))))
-    where
-      kept-stored : (b : Bool) → pick b (stored s (pick b (keeping (next .machine) (kept (part frame f))) (next .machine) .parameters) memory) memory ≡ pick b (stored s (kept (part frame f)) memory) memory
-      kept-stored true = refl
-      kept-stored false = refl
+      (lent-changed (sending f frame memory (next .sends)) (keeps f frame next) memory _ reply (rw k at l) (e ∙ same ∙ ap (pick (next .takes) data-in) (kept-stored (next .keeps))))

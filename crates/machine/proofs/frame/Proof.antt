@@ -76,7 +76,7 @@ returns-3 c =
     let a = k .before .before .before .before .before .before .args in
     let next = went .before .before .before .before .react in
     let kept = went .before .before .before .keep .ensures in
-    let l = decided-leaves (a .settings .version) (a .settings) (a .machine) (a .frame .now) (a .memory .now) (a .reply .now) (k .read .result) (next .result) (k .read .ensures) (next .ensures) (rw kept at (went .send .ensures)) (rw kept at (c .before .before .fill .ensures)) in
+    let l = decided-leaves (a .settings .version) (a .settings) (a .machine) (a .frame .now) (a .memory .now) (a .reply .now) (k .read .result) (next .result) (k .read .ensures) (next .ensures) kept (went .send .ensures) (c .before .before .fill .ensures) in
     let none = rw (k .read .ensures) at (went .before .before .before .before .before .if2 .left) in
     rw (← k .before .before .refusal .ensures)
     (frame-accepted (a .settings .version) (k .before .before .refusal .result) (a .frame .now) (a .machine) (a .memory .now) (a .reply .now) (λ (f : Fields). react (a .settings) (a .machine) f (a .frame .now) (a .memory .now)) (k .before .if1 .left) none l)
