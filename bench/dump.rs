@@ -113,7 +113,7 @@ impl Ends for Plain {
     fn new() -> Self {
         Plain {
             machine: machine::Machine::fresh(machine::State::Idle),
-            host: dump::Session::Waiting,
+            host: dump::Session::FRESH,
         }
     }
 

@@ -1,9 +1,11 @@
 //! A load's step that sends: the machine has answered a segment, and the next
-//! one goes out. The step checks the image, reads the answer, finds the segment
-//! and writes its frame.
+//! one goes out. The step checks the image, reads the answer, counts it, finds
+//! the segment and writes its frame. And one on an answer that has come before,
+//! which is counted and nothing else.
 
 use std::hint::black_box;
 
+use mop_plain::counts::Counts;
 use mop_plain::load::{self, Progress, Session, Settings};
 use mop_plain::step::Verdict;
 use mop_plain::version::Version;
@@ -41,12 +43,21 @@ impl Answered {
                 position,
                 repeats: 0,
                 sent,
+                counts: Counts::default(),
             }),
             frame: [10, sent as u8, 0],
         }
     }
 
-    /// Both give the length of the frame that is now in `reply`.
+    /// The same, but the frame is the answer before, once more.
+    fn doubled(position: u64) -> Answered {
+        Answered {
+            frame: [10, position as u8, 0],
+            ..Answered::new(position)
+        }
+    }
+
+    /// Both give the length of the frame that is now in `reply`, 0 for none.
     fn proved(&self, job: Job, reply: &mut [u8]) -> usize {
         let settings = LoadSettings {
             segment_size: SEGMENT_SIZE,
@@ -89,13 +100,22 @@ impl Answered {
 
 /// Every segment but the first in turn.
 pub fn step(name: &str, file: &[u8], string: Option<&[u8]>) {
-    let job = Job { file, string };
+    step_on(name, Job { file, string }, Answered::new, true);
+}
+
+/// The same segments, each answer a doubled one.
+pub fn ignored(name: &str, file: &[u8]) {
+    let string = None;
+    step_on(name, Job { file, string }, Answered::doubled, false);
+}
+
+fn step_on(name: &str, job: Job, answered: fn(u64) -> Answered, sends: bool) {
     let count = proved::image_check(job.file, SEGMENT_SIZE).segments;
-    let inputs: Vec<Answered> = (0..count - 1).map(Answered::new).collect();
+    let inputs: Vec<Answered> = (0..count - 1).map(answered).collect();
     let (mut reply, mut other) = ([0; 1500], [0; 1500]);
     for input in &inputs {
         let length = input.proved(job, &mut reply);
-        assert!(length > 0, "a frame goes out");
+        assert_eq!(length > 0, sends, "a frame goes out, or none");
         assert_eq!(length, input.plain(job, &mut other));
         assert_eq!(reply[..length], other[..length], "the same frame");
     }

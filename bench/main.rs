@@ -1,6 +1,7 @@
 //! How long the proved library takes beside the plain implementation: the
-//! reader, the image check, the segment call, a load's step that sends, a
-//! machine's step on a load and on a code 20, and a dump between two ends.
+//! reader, the image check, the segment call, a load's step that sends and one
+//! that only counts, a machine's step on a load and on a code 20, and a dump
+//! between two ends.
 //!
 //! Both get the same inputs in one run, in turns, and borrow what they read:
 //! neither allocates, and but for the ends' steps no buffer is written.
@@ -78,6 +79,7 @@ fn main() {
         load::step(&format!("load step, {name}"), &file, None);
     }
     let file = image(1, 60_000);
+    load::ignored("load step, a frame ignored", &file);
     for (name, string) in [
         ("load step, names", names()),
         ("load step, 1,476 bytes of names", filling(&name(1, 16))),

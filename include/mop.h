@@ -129,8 +129,9 @@
  *
  * Ignored. Where a step answers refusal 0 and length 0, and the verdict (of a
  * machine, the state) is as before, the frame or timer was ignored: nothing has
- * changed, in the record, in memory or in a buffer. One that was taken gives a
- * frame to send, or another verdict or state. That is a theorem
+ * changed, in the record, in memory or in a buffer, but that a load and a dump
+ * count a frame as ignored while the verdict is 0 (mop_counts). One that was
+ * taken gives a frame to send, or another verdict or state. That is a theorem
  * (crates/mop_steps/specs/Laws.antt). Compare records field by field: they have
  * bytes that belong to no field and hold anything, so memcmp is no way.
  *
@@ -687,10 +688,24 @@ typedef struct mop_load_settings {
     uint8_t version;         /* MOP_VERSION_.. */
 } mop_load_settings;
 
+/* What the frames came to that a load or a dump was handed: how noisy the line
+ * was. Each frame that can be read and is handed to a step while the verdict is
+ * 0 raises one of these by 1, the first that applies. No timer, no refused call
+ * and no frame after the verdict raises any. A step takes each of them up to
+ * 2^64 - 2. */
+typedef struct mop_counts {
+    uint64_t starts;     /* it ended the waiting: 0 while waiting, then 1 */
+    uint64_t advances;   /* it moved the session on: a load's position, or a
+                            dump's filled, rose; the finishing frame too */
+    uint64_t ignored;    /* it moved nothing: late, doubled, or of no use */
+    uint64_t rejections; /* it rejected the load, 0 or 1; of a dump 0 */
+} mop_counts;
+
 /* A load's record. */
 typedef struct mop_load {
     uint64_t position; /* c, the frames that the machine has answered */
     uint64_t sent;     /* the frames sent, at most n x (R + 1) */
+    mop_counts counts; /* what the frames that it was handed came to */
     uint32_t repeats;  /* the repeats of the frame on its way, at most R */
     uint8_t waiting;   /* 1 until a machine asks for a program, then 0 */
     uint8_t verdict;   /* MOP_LOAD_.. */
@@ -715,8 +730,9 @@ mop_load mop_load_start(void);
  *          that frame at the start of reply, the bytes behind it as they were.
  *   Refuses, in this order:
  *          10 for a setting, for a record with a verdict above 4, repeats
- *             above the settings', or waiting above 1, and for one that waits
- *             and has another number that is not 0;
+ *             above the settings', waiting above 1, or one of the four counts
+ *             at 2^64 - 1, and for one that waits and has another number, but
+ *             for counts.ignored, that is not 0;
  *          9 for the reply buffer;
  *          5, 6, 7 and 8 as mop_image_check does;
  *          10 for a position above n, for sent above n x (R + 1), and for the
@@ -773,9 +789,10 @@ typedef struct mop_dump {
     uint64_t filled;  /* the bytes that stand in the buffer, at most L */
     uint64_t replies; /* the replies taken, at most filled */
     uint64_t sent;    /* the frames sent, at most (replies + 1) x (R + 1) + 1 */
-    uint32_t repeats; /* the repeats of the frame on its way, at most R */
-    uint8_t waiting;  /* 1 until a machine offers a dump, then 0 */
-    uint8_t verdict;  /* MOP_DUMP_.. */
+    mop_counts counts; /* what the frames that it was handed came to */
+    uint32_t repeats;  /* the repeats of the frame on its way, at most R */
+    uint8_t waiting;   /* 1 until a machine offers a dump, then 0 */
+    uint8_t verdict;   /* MOP_DUMP_.. */
 } mop_dump;
 
 /* What a step of a dump answers. */
@@ -796,10 +813,11 @@ mop_dump mop_dump_start(void);
  *   Refuses, in this order:
  *          10 for a setting or the dump buffer's length, for a record with a
  *             verdict above 3, repeats above the settings', filled above the
- *             length, replies above filled, sent above its bound, or waiting
- *             above 1, for one that waits and has another number that is not
- *             0, and for the verdict 1 before the buffer is full, or another
- *             one when it is;
+ *             length, replies above filled, sent above its bound, waiting
+ *             above 1, or one of the four counts at 2^64 - 1, for one that
+ *             waits and has another number, but for counts.ignored, that is
+ *             not 0, and for the verdict 1 before the buffer is full, or
+ *             another one when it is;
  *          9 for the reply buffer;
  *          1 to 4 for the frame as mop_read does under the settings' version.
  *          Then the record is answered as it came, and both buffers stay as

@@ -60,6 +60,12 @@ fn main() -> ExitCode {
     let runs: Vec<(Tally, bool)> = seeds.into_iter().map(run).collect();
     let sum = |count: fn(&Tally) -> u64| runs.iter().map(|(tally, _)| count(tally)).sum();
     println!(
+        "compare: {} steps with a count at 2^64 - 1, {} with one below, {} sessions summed up",
+        commas(sum(|tally| tally.ends.at_top)),
+        commas(sum(|tally| tally.ends.below_top)),
+        commas(sum(|tally| tally.sums)),
+    );
+    println!(
         "compare: {} frames, {} images, {} steps of the ends, {} differences",
         commas(sum(|tally| tally.frames)),
         commas(sum(|tally| tally.images)),

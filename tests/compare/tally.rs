@@ -90,6 +90,8 @@ pub struct Tally {
     pub differences: u64,
     /// Calls of the two ends.
     pub steps: u64,
+    /// Sessions whose four counts were summed up.
+    pub sums: u64,
     pub ends: crate::ends::Seen,
     kinds: BTreeMap<(&'static str, &'static str), u64>,
     reader: BTreeMap<u8, Refusals>,
@@ -119,6 +121,12 @@ impl Tally {
     pub fn image(&mut self, kind: &'static str) {
         self.images += 1;
         self.kind("image files", kind);
+    }
+
+    /// A session's counts were compared with the frames handed over in it.
+    pub fn summed(&mut self, kind: &'static str) {
+        self.sums += 1;
+        self.kind("sessions whose counts were summed up", kind);
     }
 
     pub fn check(&mut self, refusal: u8) {

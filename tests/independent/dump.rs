@@ -1,5 +1,6 @@
 //! The host's dump (PROTOCOL 5, "Host end").
 
+use crate::counts::Counts;
 use crate::frame::{self, Frame};
 use crate::refusal::{BAD_RECORD, BAD_SETTING, Refusal};
 use crate::step::{Reply, Sent, Verdict, check_most, check_repeats, good_record};
@@ -26,8 +27,10 @@ pub struct Settings {
 /// The session's record.
 #[derive(Clone, Copy, Debug, PartialEq, Eq)]
 pub enum Session {
-    /// For a machine's offer.
-    Waiting,
+    /// For a machine's offer; so many other frames have come.
+    Waiting {
+        ignored: u64,
+    },
     Begun(Progress),
 }
 
@@ -42,10 +45,15 @@ pub struct Progress {
     pub repeats: u32,
     /// Frames sent.
     pub sent: u64,
+    /// Frames that have come.
+    pub counts: Counts,
 }
 
 impl Session {
-    /// A record from its numbers; a waiting one has them all 0.
+    pub const FRESH: Session = Session::Waiting { ignored: 0 };
+
+    /// A record from its numbers; a waiting one has them all 0, but for the
+    /// frames ignored.
     pub fn from_numbers(
         waiting: u8,
         verdict: u8,
@@ -53,7 +61,9 @@ impl Session {
         replies: u64,
         repeats: u32,
         sent: u64,
+        counts: Counts,
     ) -> Result<Self, Refusal> {
+        let ignored = counts.ignored;
         match waiting {
             0 => Ok(Session::Begun(Progress {
                 verdict: Verdict::from_number(verdict)?,
@@ -61,9 +71,12 @@ impl Session {
                 replies,
                 repeats,
                 sent,
+                counts,
             })),
-            1 if (verdict, filled, replies, repeats, sent) == (0, 0, 0, 0, 0) => {
-                Ok(Session::Waiting)
+            1 if (verdict, filled, replies, repeats, sent) == (0, 0, 0, 0, 0)
+                && counts == Counts::while_waiting(ignored) =>
+            {
+                Ok(Session::Waiting { ignored })
             }
             _ => Err(BAD_RECORD),
         }
@@ -80,26 +93,23 @@ pub fn frame(
 ) -> Result<Sent, Refusal> {
     let reply = check(settings, *session, buffer, reply)?;
     let frame = frame::read(settings.version, bytes)?;
-    Ok(match (session, frame) {
-        (session @ Session::Waiting, Frame::RequestDumpService { .. }) => {
-            let mut progress = Progress {
-                verdict: Verdict::Running,
-                filled: 0,
-                replies: 0,
-                repeats: 0,
-                sent: 0,
-            };
-            let sent = progress.ask(settings, reply);
-            *session = Session::Begun(progress);
-            sent
+    Ok(match session {
+        Session::Waiting { ignored } => match frame {
+            Frame::RequestDumpService { .. } => {
+                let mut progress = Progress::begun(*ignored);
+                let sent = progress.ask(settings, reply);
+                *session = Session::Begun(progress);
+                sent
+            }
+            _ => {
+                *ignored += 1;
+                None
+            }
+        },
+        Session::Begun(progress) if progress.verdict == Verdict::Running => {
+            progress.frame(settings, frame, buffer, reply)
         }
-        (Session::Begun(progress), Frame::DumpData { address, data })
-            if progress.verdict == Verdict::Running
-                && progress.is_wanted(settings, address, data) =>
-        {
-            progress.fill(settings, data, buffer, reply)
-        }
-        _ => None,
+        Session::Begun(_) => None,
     })
 }
 
@@ -131,10 +141,13 @@ fn check<'r>(
         return Err(BAD_SETTING);
     }
     match session {
-        Session::Waiting => check_repeats(settings.repeats, 0)?,
+        Session::Waiting { ignored } => {
+            check_repeats(settings.repeats, 0)?;
+            good_record(Counts::while_waiting(ignored).have_room())?;
+        }
         Session::Begun(progress) => {
             check_repeats(settings.repeats, progress.repeats)?;
-            good_record(progress.is_good(settings))?;
+            good_record(progress.counts.have_room() && progress.is_good(settings))?;
         }
     }
     Reply::new(reply)
@@ -149,6 +162,18 @@ impl Settings {
 }
 
 impl Progress {
+    /// A machine has offered a dump, after so many other frames.
+    fn begun(ignored: u64) -> Progress {
+        Progress {
+            verdict: Verdict::Running,
+            filled: 0,
+            replies: 0,
+            repeats: 0,
+            sent: 0,
+            counts: Counts::at_start(ignored),
+        }
+    }
+
     fn is_good(&self, settings: Settings) -> bool {
         let finished = self.verdict == Verdict::Finished;
         self.verdict != Verdict::Unconfirmed
@@ -175,8 +200,22 @@ impl Progress {
         address == self.address(settings) && (1..=most).contains(&data.len())
     }
 
+    /// A frame has come while the dump runs.
+    fn frame(&mut self, settings: Settings, frame: Frame, buffer: &mut [u8], reply: Reply) -> Sent {
+        match frame {
+            Frame::DumpData { address, data } if self.is_wanted(settings, address, data) => {
+                self.fill(settings, data, buffer, reply)
+            }
+            _ => {
+                self.counts.ignored += 1;
+                None
+            }
+        }
+    }
+
     /// Takes a reply's bytes, then asks for more or completes the dump.
     fn fill(&mut self, settings: Settings, data: &[u8], buffer: &mut [u8], reply: Reply) -> Sent {
+        self.counts.advances += 1;
         buffer[self.filled as usize..][..data.len()].copy_from_slice(data);
         self.filled += data.len() as u64;
         self.replies += 1;

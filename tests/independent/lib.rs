@@ -7,6 +7,7 @@
 #![forbid(unsafe_code)]
 
 mod block;
+pub mod counts;
 mod cursor;
 pub mod dump;
 pub mod entries;

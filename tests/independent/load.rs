@@ -1,5 +1,6 @@
 //! The host's load (PROTOCOL 5, "Host end").
 
+use crate::counts::Counts;
 use crate::entries;
 use crate::frame::{self, Frame};
 use crate::image::{self, Image, SEGMENT_MOST};
@@ -37,8 +38,10 @@ pub fn given(mark: u8, string: &[u8]) -> Result<Option<&[u8]>, Refusal> {
 /// The session's record.
 #[derive(Clone, Copy, Debug, PartialEq, Eq)]
 pub enum Session {
-    /// For a machine's request.
-    Waiting,
+    /// For a machine's request; so many other frames have come.
+    Waiting {
+        ignored: u64,
+    },
     Begun(Progress),
 }
 
@@ -51,25 +54,37 @@ pub struct Progress {
     pub repeats: u32,
     /// Frames sent.
     pub sent: u64,
+    /// Frames that have come.
+    pub counts: Counts,
 }
 
 impl Session {
-    /// A record from its numbers; a waiting one has them all 0.
+    pub const FRESH: Session = Session::Waiting { ignored: 0 };
+
+    /// A record from its numbers; a waiting one has them all 0, but for the
+    /// frames ignored.
     pub fn from_numbers(
         waiting: u8,
         verdict: u8,
         position: u64,
         repeats: u32,
         sent: u64,
+        counts: Counts,
     ) -> Result<Self, Refusal> {
+        let ignored = counts.ignored;
         match waiting {
             0 => Ok(Session::Begun(Progress {
                 verdict: Verdict::from_number(verdict)?,
                 position,
                 repeats,
                 sent,
+                counts,
             })),
-            1 if (verdict, position, repeats, sent) == (0, 0, 0, 0) => Ok(Session::Waiting),
+            1 if (verdict, position, repeats, sent) == (0, 0, 0, 0)
+                && counts == Counts::while_waiting(ignored) =>
+            {
+                Ok(Session::Waiting { ignored })
+            }
             _ => Err(BAD_RECORD),
         }
     }
@@ -85,30 +100,26 @@ pub fn frame(
 ) -> Result<Sent, Refusal> {
     let (frames, reply) = check(settings, *session, file, reply)?;
     let frame = frame::read(settings.version, bytes)?;
-    Ok(match (session, frame) {
-        (
-            session @ Session::Waiting,
+    Ok(match session {
+        Session::Waiting { ignored } => match frame {
             Frame::RequestProgram {
                 program: OPERATING_SYSTEM,
                 ..
-            },
-        ) => {
-            let mut progress = Progress {
-                verdict: Verdict::Running,
-                position: 0,
-                repeats: 0,
-                sent: 0,
-            };
-            let sent = progress.send(&frames, reply);
-            *session = Session::Begun(progress);
-            sent
+            } => {
+                let mut progress = Progress::begun(*ignored);
+                let sent = progress.send(&frames, reply);
+                *session = Session::Begun(progress);
+                sent
+            }
+            _ => {
+                *ignored += 1;
+                None
+            }
+        },
+        Session::Begun(progress) if progress.verdict == Verdict::Running => {
+            progress.frame(frame, &frames, reply)
         }
-        (Session::Begun(progress), Frame::RequestLoad { number, error })
-            if progress.verdict == Verdict::Running && number == progress.wanted_number() =>
-        {
-            progress.answered(error, &frames, reply)
-        }
-        _ => None,
+        Session::Begun(_) => None,
     })
 }
 
@@ -136,12 +147,13 @@ fn check<'l, 'r>(
     file: &'l [u8],
     reply: &'r mut [u8],
 ) -> Result<(Frames<'l>, Reply<'r>), Refusal> {
-    let repeats = match session {
-        Session::Waiting => 0,
-        Session::Begun(progress) => progress.repeats,
+    let (repeats, counts) = match session {
+        Session::Waiting { ignored } => (0, Counts::while_waiting(ignored)),
+        Session::Begun(progress) => (progress.repeats, progress.counts),
     };
     check_most(settings.segment_size, SEGMENT_MOST)?;
     check_repeats(settings.repeats, repeats)?;
+    good_record(counts.have_room())?;
     let reply = Reply::new(reply)?;
     let frames = Frames {
         image: image::check(file, settings.segment_size)?,
@@ -168,6 +180,17 @@ fn check_string(version: Version, string: &[u8]) -> Result<(), Refusal> {
 }
 
 impl Progress {
+    /// A machine has asked for a program, after so many other frames.
+    fn begun(ignored: u64) -> Progress {
+        Progress {
+            verdict: Verdict::Running,
+            position: 0,
+            repeats: 0,
+            sent: 0,
+            counts: Counts::at_start(ignored),
+        }
+    }
+
     /// What of a record needs n, the number of frames.
     fn is_good(&self, repeats: u32, frames: u64) -> bool {
         let finished = self.verdict == Verdict::Finished;
@@ -181,12 +204,27 @@ impl Progress {
         ((self.position + 1) % 256) as u8
     }
 
+    /// A frame has come while the load runs.
+    fn frame(&mut self, frame: Frame, frames: &Frames, reply: Reply) -> Sent {
+        match frame {
+            Frame::RequestLoad { number, error } if number == self.wanted_number() => {
+                self.answered(error, frames, reply)
+            }
+            _ => {
+                self.counts.ignored += 1;
+                None
+            }
+        }
+    }
+
     /// Frame c was answered.
     fn answered(&mut self, error: u8, frames: &Frames, reply: Reply) -> Sent {
         if error != 0 {
+            self.counts.rejections += 1;
             self.verdict = Verdict::Rejected;
             return None;
         }
+        self.counts.advances += 1;
         self.position += 1;
         self.repeats = 0;
         if self.position == frames.count() {

@@ -221,7 +221,7 @@ impl<'a> Stage<'a> {
         Stage {
             settings: input.settings,
             file: &input.file,
-            session: Session::Waiting,
+            session: Session::FRESH,
             machine: Machine::fresh(State::Requesting),
             memory: vec![0; input.memory_length],
             from_host: Queue::default(),
@@ -311,7 +311,7 @@ impl<'a> Stage<'a> {
     /// The transcript with its last line.
     fn end(mut self) -> Vec<u8> {
         let (verdict, sent) = match self.session {
-            Session::Waiting => (Verdict::Running, 0),
+            Session::Waiting { .. } => (Verdict::Running, 0),
             Session::Begun(progress) => (progress.verdict, progress.sent),
         };
         let transfer = match self.machine.state {

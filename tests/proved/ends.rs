@@ -61,12 +61,23 @@ pub struct LoadSettings {
     pub version: u8,
 }
 
+/// `mop_counts`
+#[repr(C)]
+#[derive(Clone, Copy, Debug, Default, PartialEq, Eq)]
+pub struct Counts {
+    pub starts: u64,
+    pub advances: u64,
+    pub ignored: u64,
+    pub rejections: u64,
+}
+
 /// `mop_load`
 #[repr(C)]
 #[derive(Clone, Copy, Debug, Default, PartialEq, Eq)]
 pub struct Load {
     pub position: u64,
     pub sent: u64,
+    pub counts: Counts,
     pub repeats: u32,
     pub waiting: u8,
     pub verdict: u8,
@@ -90,6 +101,7 @@ pub struct Dump {
     pub filled: u64,
     pub replies: u64,
     pub sent: u64,
+    pub counts: Counts,
     pub repeats: u32,
     pub waiting: u8,
     pub verdict: u8,

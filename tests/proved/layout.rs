@@ -53,10 +53,11 @@ layout! {
     mop_machine = Machine { transfer, state, expected, error, parameters }
     mop_machine_step = Step<Machine> { record machine, answer }
     mop_load_settings = LoadSettings { segment_size, repeats, with_parameters, version }
-    mop_load = Load { position, sent, repeats, waiting, verdict }
+    mop_counts = Counts { starts, advances, ignored, rejections }
+    mop_load = Load { position, sent, counts, repeats, waiting, verdict }
     mop_load_step = Step<Load> { record session, answer }
     mop_dump_settings = DumpSettings { length, address, request_bytes, repeats, version }
-    mop_dump = Dump { filled, replies, sent, repeats, waiting, verdict }
+    mop_dump = Dump { filled, replies, sent, counts, repeats, waiting, verdict }
     mop_dump_step = Step<Dump> { record session, answer }
     mop_loop_settings = LoopSettings { repeats, receipt, version }
     mop_loop = Loop { sent, repeats, verdict }

@@ -40,7 +40,7 @@ events =
     own (handToHost reply) ∷ []
 
 finishes : after s ms (7 ∷ 8 ∷ 9 ∷ []) (5 ∷ 5 ∷ 5 ∷ []) events .host ≡ record {
-  session = record { filled = 3; replies = 2; sent = 4; repeats = 0; waiting = 0; verdict = 1 };
+  session = record { filled = 3; replies = 2; sent = 4; counts = record { starts = 1; advances = 2; ignored = 0; rejections = 0 }; repeats = 0; waiting = 0; verdict = 1 };
   buffer = 8 ∷ 9 ∷ 0 ∷ [];
 }
 unfolding run find fields layout low number first bytesFrom

@@ -26,7 +26,9 @@ use Rattle.block.specs.Block.{cell, block}
 use Rattle.machine_record.specs.declared.Machine.{Machine}
 use Rattle.machine_record.specs.Record.{keeping}
 use Rattle.machine_next.specs.Next.{byNumber, onLoad, onParameters}
+use Rattle.counts.specs.Counts.{ignore}
 use Rattle.load_record.specs.declared.Session.{Session}
+use Rattle.load_record.specs.Record.{counting}
 use Rattle.load.specs.Load.{raised}
 use Rattle.link.specs.Link.{Frame, Turn, refuses, acts, queued, Ends, World, Event, own, handToMachine, handToHost, withToHost, run}
 use Rattle.link.specs.MachineEnd.{End, machineEnd}
@@ -55,11 +57,25 @@ ours = loadEnds loaded.loadSettings loaded.machineSettings loaded.image []
 -- our ends, but for what one of them makes of a frame
 abbrev withHost : (Session → Frame → List ℕ → Turn Session) → Ends Session End ⊥
 withHost frame =
-    record { hostFrame = frame; hostTimer = ours .hostTimer; machineFrame = ours .machineFrame; machineTimer = ours .machineTimer; further = ours .further }
+    record {
+      hears = ours .hears;
+      hostFrame = frame;
+      hostTimer = ours .hostTimer;
+      machineFrame = ours .machineFrame;
+      machineTimer = ours .machineTimer;
+      further = ours .further;
+    }
 
 abbrev withMachine : (End → Frame → List ℕ → Turn End) → Ends Session End ⊥
 withMachine frame =
-    record { hostFrame = ours .hostFrame; hostTimer = ours .hostTimer; machineFrame = frame; machineTimer = ours .machineTimer; further = ours .further }
+    record {
+      hears = ours .hears;
+      hostFrame = ours .hostFrame;
+      hostTimer = ours .hostTimer;
+      machineFrame = frame;
+      machineTimer = ours .machineTimer;
+      further = ours .further;
+    }
 
 -- the claim, after a list of events from fresh ends with so many bytes of memory
 abbrev Claim : Ends Session End ⊥ → ℕ → List (Event ⊥) → Type 0
@@ -93,7 +109,7 @@ clips-beyond r = let z = ap {B = ℕ} (λ (b : Bool). pick b 1 0) (r .finished r
 -- A host that says finished on the first reply.
 abbrev finished : Turn Session → Turn Session
 finished refuses = refuses
-finished (acts h out) = acts (record { position = 2; sent = h .sent; repeats = 0; waiting = 0; verdict = 1 }) out
+finished (acts h out) = acts (record { position = 2; sent = h .sent; counts = h .counts; repeats = 0; waiting = 0; verdict = 1 }) out
 
 abbrev hasty : Ends Session End ⊥
 hasty = withHost (λ h f b. pick (eqb (fields v30 f .code) 10) (finished (ours .hostFrame h f b)) (ours .hostFrame h f b))
@@ -113,6 +129,31 @@ inventive = withHost (λ h f b. more (ours .hostFrame h f b))
 pub invented-count : Claim inventive 8 (take 1 whole) → ⊥
 unfolding run loaded.image number low find fields layout first trailerOf entryOf entries demand entriesRefusal many segment
 invented-count r = let z = r .counted in omega arith
+
+-- A host that counts each frame that it is handed once more, as ignored.
+abbrev noted : Turn Session → Turn Session
+noted refuses = refuses
+noted (acts h out) = acts (counting (ignore (h .counts)) h) out
+
+abbrev twice : Ends Session End ⊥
+twice = withHost (λ h f b. noted (ours .hostFrame h f b))
+
+pub counted-twice : Claim twice 8 (take 1 whole) → ⊥
+unfolding run loaded.image number low find fields layout first trailerOf entryOf entries demand entriesRefusal many segment
+counted-twice r = let z = r .handed in omega arith
+
+-- A host that counts the finishing frame as ignored: the sum is right, and advances is not.
+abbrev misfiled : ℕ → Turn Session → Turn Session
+misfiled before refuses = refuses
+misfiled before (acts h out) =
+    acts (pick (eqb (h .verdict) 1) (counting (record { starts = 1; advances = before; ignored = 1; rejections = 0 }) h) h) out
+
+abbrev misfiles : Ends Session End ⊥
+misfiles = withHost (λ h f b. misfiled (h .counts .advances) (ours .hostFrame h f b))
+
+pub finishing-ignored : Claim misfiles 8 whole → ⊥
+unfolding run loaded.image number low find fields layout first trailerOf entryOf entries demand entriesRefusal many segment fits touches byNumber onLoad
+finishing-ignored r = let z = r .counts .advances in omega arith
 
 -- A machine that lays a load around its ROM window: it works as if there were no window, puts the window's byte back, and says that all went in.
 abbrev spared : List ℕ → Turn End → Turn End
@@ -140,6 +181,7 @@ abbrev forgets : Ends Session End ⊥
 forgets =
     let ends : Ends Session End ⊥ = loadEnds given.loadSettings loaded.machineSettings loaded.image given.string in
     record {
+      hears = ends .hears;
       hostFrame = ends .hostFrame;
       hostTimer = ends .hostTimer;
       machineFrame = λ e f b. unkept (ends .machineFrame e f b);
@@ -180,6 +222,7 @@ misplaced old f (acts h out) =
 abbrev fromStart : Ends Host End ⊥
 fromStart =
     record {
+      hears = ourDump .hears;
       hostFrame = λ h f b. misplaced h f (ourDump .hostFrame h f b);
       hostTimer = ourDump .hostTimer;
       machineFrame = ourDump .machineFrame;

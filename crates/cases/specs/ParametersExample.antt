@@ -56,7 +56,7 @@ absent = record { length = 0; bytes = replicate 16 0 }
 -- what is left at the end: the second name alone is kept, and nothing of the longer first one; types 2, 3 and 5 are absent
 pub worked : run (loadEnds loadSettings machineSettings image string) (freshWorld machineSettings (replicate 8 0)) events
     ≡ record {
-      host = record { position = 3; sent = 4; repeats = 0; waiting = 0; verdict = 1 };
+      host = record { position = 3; sent = 4; counts = record { starts = 1; advances = 3; ignored = 0; rejections = 0 }; repeats = 0; waiting = 0; verdict = 1 };
       machine =
           record {
             machine =
@@ -72,6 +72,7 @@ pub worked : run (loadEnds loadSettings machineSettings image string) (freshWorl
       toMachine = [];
       toHost = [];
       taken = 4;
+      heard = 4;
     }
 unfolding image string events run number low find fields layout first trailerOf entryOf entries demand entriesRefusal many segment fits touches byNumber onLoad onParameters latest walk next
 worked = refl

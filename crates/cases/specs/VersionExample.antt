@@ -60,7 +60,7 @@ events =
 -- do the old bytes behind it; the host name AL and four spaces. A started machine ignores the code 20 that comes again.
 pub worked : run (loadEnds loadSettings machineSettings image string) (freshWorld machineSettings (replicate 64 7)) events
     ≡ record {
-      host = record { position = 3; sent = 3; repeats = 0; waiting = 0; verdict = 1 };
+      host = record { position = 3; sent = 3; counts = record { starts = 1; advances = 3; ignored = 0; rejections = 0 }; repeats = 0; waiting = 0; verdict = 1 };
       machine =
           record {
             machine = started (kept string) 2;
@@ -69,6 +69,7 @@ pub worked : run (loadEnds loadSettings machineSettings image string) (freshWorl
       toMachine = [];
       toHost = [];
       taken = 3;
+      heard = 4;
     }
 unfolding image string events run number low find fields layout first trailerOf entryOf entries demand entriesRefusal many segment fits touches byNumber onLoad onParameters latest walk next cell block
 worked = refl
@@ -103,11 +104,12 @@ touched = machineWith (record { start = 6; length = 1 })
 
 pub rejected : run (loadEnds loadSettings touched image string) (freshWorld touched (replicate 64 7)) events
     ≡ record {
-      host = record { position = 2; sent = 3; repeats = 0; waiting = 0; verdict = 2 };
+      host = record { position = 2; sent = 3; counts = record { starts = 1; advances = 2; ignored = 0; rejections = 1 }; repeats = 0; waiting = 0; verdict = 2 };
       machine = record { machine = loading none 3 1; memory = 7 ∷ 7 ∷ 0x0A ∷ 0x0B ∷ 0x0C ∷ replicate 59 7 };
       toMachine = [];
       toHost = (0x0A ∷ 0x03 ∷ 0x01 ∷ []) ∷ [];
       taken = 3;
+      heard = 4;
     }
 unfolding image string events run number low find fields layout first trailerOf entryOf entries demand entriesRefusal many segment fits touches byNumber onLoad onParameters latest walk next cell block
 rejected = refl

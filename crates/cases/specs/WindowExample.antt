@@ -43,11 +43,12 @@ events =
 -- what is left at the end: the load is rejected, segment 0 is in, the byte of the window is the old one, and the second answer is on its way
 pub worked : run (loadEnds loadSettings machineSettings image []) (freshWorld machineSettings (replicate 8 7)) events
     ≡ record {
-      host = record { position = 1; sent = 2; repeats = 0; waiting = 0; verdict = 2 };
+      host = record { position = 1; sent = 2; counts = record { starts = 1; advances = 1; ignored = 0; rejections = 1 }; repeats = 0; waiting = 0; verdict = 2 };
       machine = record { machine = loading none 2 1; memory = 7 ∷ 7 ∷ 0x0A ∷ 0x0B ∷ 7 ∷ 7 ∷ 7 ∷ 7 ∷ [] };
       toMachine = [];
       toHost = (0x0A ∷ 0x02 ∷ 0x01 ∷ []) ∷ [];
       taken = 2;
+      heard = 3;
     }
 unfolding image events run number low find fields layout first trailerOf entryOf entries demand entriesRefusal many segment fits touches byNumber onLoad
 worked = refl

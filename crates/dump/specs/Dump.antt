@@ -10,16 +10,25 @@ use Rattle.step.specs.Step.{Act, Outcome, acts, call, frameCall}
 use Rattle.dump_record.specs.declared.Settings.{Settings}
 use Rattle.dump_record.specs.declared.Session.{Session}
 use Rattle.dump_record.specs.declared.Next.{Next}
+use Rattle.dump_record.specs.Record.{tallied}
 use Rattle.dump_next.specs.Next.{react, sending}
 use Rattle.dump_timer.specs.Timer.{onTimer}
 use Rattle.dump_checks.specs.Checks.{refusal}
 use Rattle.dump_count.specs.Count.{replies, frames}
 
 -- ---- what is counted, and what stands in the dump buffer
--- this record with its counts raised
+-- this record with more replies taken and frames sent
 abbrev pub raised : Session → ℕ → ℕ → Session
 raised h taken sent =
-    record { filled = h .filled; replies = h .replies + taken; sent = h .sent + sent; repeats = h .repeats; waiting = h .waiting; verdict = h .verdict }
+    record {
+      filled = h .filled;
+      replies = h .replies + taken;
+      sent = h .sent + sent;
+      counts = h .counts;
+      repeats = h .repeats;
+      waiting = h .waiting;
+      verdict = h .verdict;
+    }
 
 abbrev pub counted : Next → Session
 counted n = raised (n .session) (replies (n .takes)) (frames (n .sends))
@@ -33,9 +42,9 @@ abbrev pub does : Settings → Next → List ℕ → Act Session (List ℕ)
 does s n buffer = acts (counted n) buffer (sending s (n .session) (n .sends))
 
 -- ---- calls
--- a step on a frame
+-- a step on a frame, which is counted
 abbrev pub onFrame : Settings → Session → List ℕ → List ℕ → Fields → Act Session (List ℕ)
-onFrame s h frame buffer f = does s (react s h f) (filled (react s h f .takes) (part frame f) (h .filled) buffer)
+onFrame s h frame buffer f = does s (tallied h (react s h f)) (filled (react s h f .takes) (part frame f) (h .filled) buffer)
 
 abbrev pub dumpFrame : Settings → Session → List ℕ → List ℕ → List ℕ → Outcome Session (List ℕ)
 dumpFrame s h frame buffer reply = frameCall (s .version) (refusal s h (length buffer) (length reply)) frame h buffer reply (onFrame s h frame buffer)

@@ -20,7 +20,7 @@ use Rattle.dump_record.specs.declared.Settings.{Settings}
 use Rattle.dump_record.specs.declared.Session.{Session}
 use Rattle.dump_record.specs.declared.Sends.the-variants.{Nothing, Request, Complete}
 use Rattle.dump_record.specs.declared.Next.{Next}
-use Rattle.dump_record.specs.Record.{place, asked, reached}
+use Rattle.dump_record.specs.Record.{place, asked, reached, tallied}
 use Rattle.dump_next.specs.Next.{takes, react}
 use Rattle.dump_timer.specs.Timer.{onTimer}
 use Rattle.dump_checks.specs.Checks.{refusal}
@@ -31,7 +31,7 @@ use Rattle.dump.specs.Inner.{Missing, Room, Ready}
 -- What is so of what is done next, on a reply of k bytes: the counts stay, and what is asked for or taken is within the range.
 abbrev Follows : Settings → Session → ℕ → Next → Type 0
 Follows s h k n =
-    (n .session .replies ≡ h .replies) × (n .session .sent ≡ h .sent) × Missing s (n .session) (n .sends) × Room (n .takes) (h .filled) k (s .length)
+    (n .session .replies ≡ h .replies) × (n .session .sent ≡ h .sent) × Missing s (n .session .filled) (n .sends) × Room (n .takes) (h .filled) k (s .length)
 
 module _ (s : Settings) (h : Session) (size free : ℕ) (a : Accepted s h size free) where
   taken : (k address : ℕ) → (eqb (h .waiting) 0 && eqb address (place s h) && leb 1 k && leb k (asked s h)) ≡ true → Follows s h k (takes s (reached h (h .filled + k)))
@@ -67,8 +67,8 @@ module _ (s : Settings) (h : Session) (size free : ℕ) (a : Accepted s h size f
         room = a .room;
       }
 
-  pub ready-frame : (f : Fields) → Ready s (react s h f) free × Room (react s h f .takes) (h .filled) (f .«data_length») size
-  ready-frame f = (ready (f .«data_length») (react s h f) (on-frame f), rw (a .ranges .whole) (on-frame f .3))
+  pub ready-frame : (f : Fields) → Ready s (tallied h (react s h f)) free × Room (react s h f .takes) (h .filled) (f .«data_length») size
+  ready-frame f = (ready (f .«data_length») (tallied h (react s h f)) (on-frame f), rw (a .ranges .whole) (on-frame f .3))
 
   pub ready-timer : Ready s (onTimer s h) free
   ready-timer = ready 0 (onTimer s h) on-timer
@@ -87,12 +87,12 @@ module _ (s : Settings) (n : Next) (buffer reply : List ℕ) where
         → Leaves (gives (does s n buffer) reply) (counted n) answer buffer reply′
     tells-complete e c = rw e (refl, c .0, refl, c .1)
 
--- a step on a frame that is not refused: what is done next, with the bytes taken, is what the call leaves
-pub stepped : (s : Settings) (h : Session) (frame buffer reply : List ℕ) (f : Fields) (n : Next) (filled′ : List ℕ) {session : Session} {answer : Written} {reply′ : List ℕ}
-    → refusal s h (length buffer) (length reply) ≡ 0 → f ≡ fields (s .version) frame → f .refusal ≡ 0 → n ≡ react s h f
+-- a step on a frame that is not refused: what is done next, with the frame counted and the bytes taken, is what the call leaves
+pub stepped : (s : Settings) (h : Session) (frame buffer reply : List ℕ) (f : Fields) (n t : Next) (filled′ : List ℕ) {session : Session} {answer : Written} {reply′ : List ℕ}
+    → refusal s h (length buffer) (length reply) ≡ 0 → f ≡ fields (s .version) frame → f .refusal ≡ 0 → n ≡ react s h f → t ≡ tallied h n
     → filled′ ≡ filled (n .takes) (part frame f) (h .filled) buffer
-    → Leaves (gives (does s n filled′) reply) session answer filled′ reply′
+    → Leaves (gives (does s t filled′) reply) session answer filled′ reply′
     → Leaves (dumpFrame s h frame buffer reply) session answer filled′ reply′
-stepped s h frame buffer reply f n filled′ z q e r o l =
-    let done = rw (o, r, q) at l in
+stepped s h frame buffer reply f n t filled′ z q e r c o l =
+    let done = rw (o, c, r, q) at l in
     frame-accepted (s .version) (refusal s h (length buffer) (length reply)) frame h buffer reply (onFrame s h frame buffer) z (rw q at e) (done .0, done .1, (rw (r, q) at o) ∙ done .2, done .3)

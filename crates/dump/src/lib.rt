@@ -40,7 +40,7 @@ fn refused(h: Session, refusal: u8) -> Stepped
     }
 }
 
-// The record with its counts raised.
+// The record with its replies and its frames sent counted.
 fn counted(n: Next) -> Session
     requires { ⌜ (n .session .replies < 2 ^ 62) × (n .session .sent < 2 ^ 62) ⌝ }
     ensures { λ r. ⌜ r ≡ counted n ⌝ }
@@ -123,7 +123,7 @@ pub fn frame(
     let at = f.data_at;
     let end = at + f.data_length;
     fill(next.takes, &frame[at..end], session.filled, buffer);
-    tell(settings, next, reply)
+    tell(settings, dump_record::tallied(session, next), reply)
 }
 
 // A step on a timer. The buffer stays as it is.

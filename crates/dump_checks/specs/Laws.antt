@@ -9,6 +9,7 @@ use lib.Dec.{eqb, leb}
 use borrow.Author.Tests.{leb-true, eqb-true, eqb-false, not-true}
 use Rattle.octets.specs.TestLaws.{both}
 use Rattle.version.specs.Version.{known}
+use Rattle.counts.specs.Counts.{below}
 use Rattle.step.specs.Step.{unless}
 use Rattle.step.specs.Laws.{met, none}
 use Rattle.dump_record.specs.declared.Settings.{Settings}
@@ -47,6 +48,7 @@ pub record Kept (s : Settings) (h : Session) : Type 0 where
   pub filled : h .filled ≤ s .length
   pub replies : h .replies ≤ h .filled
   pub sent : h .sent ≤ (h .replies + 1) * (s .repeats + 1) + 1
+  pub below-top : below (h .counts) ≡ true
   pub short : h .verdict ≡ 0 → h .filled < s .length
 
 kept : (s : Settings) (h : Session) → sound s h ≡ true → Kept s h
@@ -55,7 +57,8 @@ kept s h e =
     let full = eqb (h .filled) (s .length) in
     let agrees = both _ (pick (eqb (h .verdict) 1) full (not full)) e in
     let waits = both _ (pick (eqb (h .waiting) 1) (blank h) true) (agrees .0) in
-    let waiting = both _ (leb (h .waiting) 1) (waits .0) in
+    let counts = both _ (below (h .counts)) (waits .0) in
+    let waiting = both _ (leb (h .waiting) 1) (counts .0) in
     let sent = both _ (leb (h .sent) most) (waiting .0) in
     let replies = both _ (leb (h .replies) (h .filled)) (sent .0) in
     let filled = both (leb (h .verdict) 3 && leb (h .repeats) (s .repeats)) (leb (h .filled) (s .length)) (replies .0) in
@@ -64,6 +67,7 @@ kept s h e =
       filled = within;
       replies = leb-true (h .replies) (h .filled) (replies .1);
       sent = leb-true (h .sent) most (sent .1);
+      below-top = counts .1;
       short = λ v.
           let missing : not full ≡ true = rw v at (agrees .1) in
           let other = eqb-false (h .filled) (s .length) (not-true full missing) in

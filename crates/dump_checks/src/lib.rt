@@ -37,7 +37,7 @@ fn settled(s: Settings, size: usize) -> bool
     version::known(s.version)
 }
 
-// A waiting record has every number 0.
+// A waiting record has every number 0 but that of ignored frames.
 fn unstarted(h: Session) -> bool
     ensures { λ r. ⌜ r ≡ cond (eqb (h .waiting) 1) (blank h) true ⌝ }
 {
@@ -56,7 +56,10 @@ fn unstarted(h: Session) -> bool
     if h.repeats != 0 {
         return false;
     }
-    h.sent == 0
+    if h.sent != 0 {
+        return false;
+    }
+    counts::only_ignored(h.counts)
 }
 
 // A record is full just if its verdict is 1.
@@ -91,6 +94,9 @@ fn sound(s: Settings, h: Session) -> bool
         return false;
     }
     if 1 < h.waiting {
+        return false;
+    }
+    if !counts::below(h.counts) {
         return false;
     }
     if !unstarted(h) {

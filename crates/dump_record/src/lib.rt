@@ -1,6 +1,10 @@
 // The record of the host's end of a dump (PROTOCOL 5, 'Host end'): its settings, its updates, and what can be done next.
 ghost use mathlib.Core.Path.{_≡_};
-ghost use Rattle.dump_record.specs.Record.{fresh, asked, reached, ignores, asks, completes};
+ghost use mathlib.Core.Bool.{true, false};
+ghost use Rattle.counts.specs.Counts.{below};
+ghost use Rattle.dump_record.specs.Record.{fresh, asked, reached, ignores, asks, completes, standing, withCounts, tallied};
+use counts::Counts;
+use counts::Standing;
 
 // Its settings: L bytes from address A; C, the most bytes asked for at a time; R, the repeats allowed per frame; and the
 // version.
@@ -13,13 +17,15 @@ pub struct Settings {
     pub version: u8,
 }
 
-// Its record: the bytes filled, the replies taken, the frames sent; the repeats of the frame on its way; whether it still
-// waits for an offer (1) or not (0); the verdict: 0 running, 1 finished, 3 given up.
+// Its record: the bytes filled, the replies taken, the frames sent; what the frames that it was handed came to; the repeats
+// of the frame on its way; whether it still waits for an offer (1) or not (0); the verdict: 0 running, 1 finished, 3 given
+// up.
 #[repr(C)]
 pub struct Session {
     pub filled: u64,
     pub replies: u64,
     pub sent: u64,
+    pub counts: Counts,
     pub repeats: u32,
     pub waiting: u8,
     pub verdict: u8,
@@ -47,6 +53,7 @@ pub fn start() -> Session
         filled: 0,
         replies: 0,
         sent: 0,
+        counts: counts::zero(),
         repeats: 0,
         waiting: 1,
         verdict: 0,
@@ -106,5 +113,30 @@ pub fn completes(h: Session, verdict: u8, takes: bool) -> Next
         session: last,
         takes,
         sends: Sends::Complete,
+    }
+}
+
+// Where it stands, for the counts.
+pub fn standing(h: Session) -> Standing
+    ensures { λ r. ⌜ r ≡ standing h ⌝ }
+{
+    Standing {
+        reached: h.filled,
+        waiting: h.waiting,
+        verdict: h.verdict,
+    }
+}
+
+// The frame is counted that brought the record h to what is done next, if there are numbers for it.
+pub fn tallied(h: Session, next: Next) -> Next
+    ensures { λ r. ⌜ (below (h .counts) ≡ true → r ≡ tallied h next) × (below (h .counts) ≡ false → r ≡ withCounts (h .counts) next) ⌝ }
+{
+    let mut session = next.session;
+    let sends = next.sends;
+    session.counts = counts::tally(standing(h), standing(next.session), h.counts);
+    Next {
+        session,
+        takes: next.takes,
+        sends,
     }
 }

@@ -16,6 +16,6 @@ module _ {H M : Type 0} where
   runWithin n ends w [] = w
   runWithin n ends w (e ∷ es) = runWithin n ends (within n (step ends w e)) es
 
-  -- the ends and the count of host frames are the same; of the queues nothing is said
+  -- the ends and what the link counts are the same; of the queues nothing is said
   abbrev pub Alike : World H M → World H M → Type 0
-  Alike w v = (w .host ≡ v .host) × (w .machine ≡ v .machine) × (w .taken ≡ v .taken)
+  Alike w v = (w .host ≡ v .host) × (w .machine ≡ v .machine) × (w .taken ≡ v .taken) × (w .heard ≡ v .heard)

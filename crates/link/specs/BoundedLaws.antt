@@ -4,7 +4,7 @@ use mathlib.Core.Path.{_≡_, refl, sym, subst, _∙_}
 use mathlib.Core.List.{List, [], _∷_, _++_, append-nil}
 use native.Mathlib.Omega.{arith}
 use lib.ListN.{take, drop, take-append-drop}
-use Rattle.link.specs.Link.{Frame, Turn, refuses, acts, World, Ends, Event, own, further, handToMachine, keepToMachine, dropToMachine, handToHost, keepToHost, dropToHost, hostTimer, machineTimer, Own, machineTurn, hostTurn, withToMachine, withToHost, ownStep, step, run}
+use Rattle.link.specs.Link.{Frame, Turn, refuses, acts, World, Ends, Event, own, further, handToMachine, keepToMachine, dropToMachine, handToHost, keepToHost, dropToHost, hostTimer, machineTimer, Own, machineTurn, hostTurn, withToMachine, withToHost, counts, ownStep, step, run}
 use Rattle.link.specs.LinkLaws.{handedToMachine, keptToMachine, droppedToMachine, handedToHost, keptToHost, droppedToHost, Lost, here, there, Closed, kept-any}
 use Rattle.link.specs.Bounded.{within, runWithin, Alike}
 
@@ -63,12 +63,12 @@ module _ {H M : Type 0} (ends : Ends H M ⊥) where
   machine-acts : (w v : World H M) (q r : List Frame) (t : Turn M) → Beside w v → Thinned q r → Beside (machineTurn w q t) (machineTurn v r t)
   machine-acts w v q r refuses b t = b
   machine-acts w v q r (acts m out) b t =
-      record { alike = (b .alike .0, refl, b .alike .2); toMachine = t; toHost = joined out (b .toHost) }
+      record { alike = (b .alike .0, refl, b .alike .2, b .alike .3); toMachine = t; toHost = joined out (b .toHost) }
 
-  host-acts : (w v : World H M) (q r : List Frame) (t : Turn H) → Beside w v → Thinned q r → Beside (hostTurn w q t) (hostTurn v r t)
-  host-acts w v q r refuses b t = b
-  host-acts w v q r (acts h out) b t =
-      record { alike = (refl, b .alike .1, rw (b .alike .2)); toMachine = joined out (b .toMachine); toHost = t }
+  host-acts : (w v : World H M) (n : ℕ) (q r : List Frame) (t : Turn H) → Beside w v → Thinned q r → Beside (hostTurn w n q t) (hostTurn v n r t)
+  host-acts w v n q r refuses b t = b
+  host-acts w v n q r (acts h out) b t =
+      record { alike = (refl, b .alike .1, rw (b .alike .2), rw (b .alike .3)); toMachine = joined out (b .toMachine); toHost = t }
 
   -- the same call of the same end is the same turn
   machine-turn : (w v : World H M) (q r : List Frame) (call : M → Turn M) → Beside w v → Thinned q r
@@ -76,10 +76,11 @@ module _ {H M : Type 0} (ends : Ends H M ⊥) where
   machine-turn w v q r call b t =
       subst (λ (m : M). Beside (machineTurn w q (call (w .machine))) (machineTurn v r (call m))) (b .alike .1) (machine-acts w v q r (call (w .machine)) b t)
 
-  host-turn : (w v : World H M) (q r : List Frame) (call : H → Turn H) → Beside w v → Thinned q r
-      → Beside (hostTurn w q (call (w .host))) (hostTurn v r (call (v .host)))
-  host-turn w v q r call b t =
-      subst (λ (h : H). Beside (hostTurn w q (call (w .host))) (hostTurn v r (call h))) (b .alike .0) (host-acts w v q r (call (w .host)) b t)
+  host-turn : (w v : World H M) (n : H → ℕ) (q r : List Frame) (call : H → Turn H) → Beside w v → Thinned q r
+      → Beside (hostTurn w (n (w .host)) q (call (w .host))) (hostTurn v (n (v .host)) r (call (v .host)))
+  host-turn w v n q r call b t =
+      subst (λ (h : H). Beside (hostTurn w (n (w .host)) q (call (w .host))) (hostTurn v (n h) r (call h))) (b .alike .0)
+      (host-acts w v (n (w .host)) q r (call (w .host)) b t)
 
   -- the frames before the first one that is left are dropped: the first frame is then the same
   record Front (q : List Frame) (f : Frame) (r : List Frame) (drops : List Frame → List (Event ⊥) → List Frame → Type 0) : Type 0 where
@@ -142,12 +143,12 @@ module _ {H M : Type 0} (ends : Ends H M ⊥) where
     handed-to-host : (c : List ℕ) (r : List Frame) → v .toHost ≡ r → Comes w (handedToHost ends v c r)
     handed-to-host c [] e = at-once b
     handed-to-host c (f ∷ r) e =
-        to-host (handToHost c) f r _ e (λ q t x. host-turn (withToHost w (f ∷ q)) v q r (λ h. ends .hostFrame h f c) x t)
+        to-host (handToHost c) f r _ e (λ q t x. host-turn (withToHost w (f ∷ q)) v (λ h. counts ends h f) q r (λ h. ends .hostFrame h f c) x t)
 
     kept-to-host : (c : List ℕ) (r : List Frame) → v .toHost ≡ r → Comes w (keptToHost ends v c r)
     kept-to-host c [] e = at-once b
     kept-to-host c (f ∷ r) e =
-        to-host (keepToHost c) f r _ e (λ q t x. host-turn (withToHost w (f ∷ q)) v (f ∷ q) (f ∷ r) (λ h. ends .hostFrame h f c) x (kept t))
+        to-host (keepToHost c) f r _ e (λ q t x. host-turn (withToHost w (f ∷ q)) v (λ h. counts ends h f) (f ∷ q) (f ∷ r) (λ h. ends .hostFrame h f c) x (kept t))
 
     dropped-to-host : (r : List Frame) → v .toHost ≡ r → Comes w (droppedToHost ends v r)
     dropped-to-host [] e = at-once b
@@ -162,14 +163,14 @@ module _ {H M : Type 0} (ends : Ends H M ⊥) where
     beside-step (own (keepToHost c)) = kept-to-host c (v .toHost) refl
     beside-step (own dropToHost) = dropped-to-host (v .toHost) refl
     beside-step (own (hostTimer c)) =
-        (own (hostTimer c) ∷ [], host-turn w v (w .toHost) (v .toHost) (λ h. ends .hostTimer h c) b (b .toHost))
+        (own (hostTimer c) ∷ [], host-turn w v (λ h. 0) (w .toHost) (v .toHost) (λ h. ends .hostTimer h c) b (b .toHost))
     beside-step (own (machineTimer c)) =
         (own (machineTimer c) ∷ [], machine-turn w v (w .toMachine) (v .toMachine) (λ m. ends .machineTimer m c) b (b .toMachine))
     beside-step (further x) = absurd x
 
   -- a queue that loses its last frames stays beside the link's
   beside-within : (n : ℕ) {w v : World H M} → Beside w v → Beside w (within n v)
-  beside-within n b = record { alike = (b .alike .0, b .alike .1, omega (arith, b .alike .2)); toMachine = cut n (b .toMachine); toHost = cut n (b .toHost) }
+  beside-within n b = record { alike = (b .alike .0, b .alike .1, b .alike .2, b .alike .3); toMachine = cut n (b .toMachine); toHost = cut n (b .toHost) }
 
   beside-run : (n : ℕ) (w v : World H M) (es : List (Event ⊥)) → Beside w v → Comes w (runWithin n ends v es)
   unfolding runWithin
@@ -181,7 +182,7 @@ module _ {H M : Type 0} (ends : Ends H M ⊥) where
   -- every run of the bounded line is alike to one of the link
   pub alike-run : (n : ℕ) (w : World H M) (es : List (Event ⊥)) → (fs : List (Event ⊥)) × Alike (run ends w fs) (runWithin n ends w es)
   alike-run n w es =
-      let x = beside-run n w w es (record { alike = (refl, refl, refl); toMachine = whole (w .toMachine); toHost = whole (w .toHost) }) in
+      let x = beside-run n w w es (record { alike = (refl, refl, refl, refl); toMachine = whole (w .toMachine); toHost = whole (w .toHost) }) in
       (x .0, x .1 .alike)
 
 -- ---- an invariant that withstands the link's own events is kept on the bounded line too: what a full queue loses is one frame after the other

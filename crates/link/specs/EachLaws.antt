@@ -3,7 +3,7 @@
 use Prim.Native.Nat.{ℕ}
 use mathlib.Core.Path.{subst}
 use mathlib.Core.List.{List, [], _∷_, _++_}
-use Rattle.link.specs.Link.{Frame, Turn, refuses, acts, Ends, World, machineTurn, hostTurn}
+use Rattle.link.specs.Link.{Frame, Turn, refuses, acts, Ends, World, machineTurn, hostTurn, counts}
 use Rattle.link.specs.LinkLaws.{Lost, here, there, Closed}
 
 -- every frame of a queue
@@ -39,9 +39,9 @@ module _ {H M X : Type 0} (ends : Ends H M X) (HostOk : H → Type 0) (EndOk : M
     pub machineFrame : (e : M) (f : Frame) (b : List ℕ) → EndOk e → Down f → Returns EndOk Up (ends .machineFrame e f b)
     pub machineTimer : (e : M) (b : List ℕ) → EndOk e → Returns EndOk Up (ends .machineTimer e b)
 
-  host-turn : (w : World H M) (q : List Frame) (t : Turn H) → Holds w → Each Up q → Returns HostOk Down t → Holds (hostTurn w q t)
-  host-turn w q refuses i each m = i
-  host-turn w q (acts h out) i each m =
+  host-turn : (w : World H M) (n : ℕ) (q : List Frame) (t : Turn H) → Holds w → Each Up q → Returns HostOk Down t → Holds (hostTurn w n q t)
+  host-turn w n q refuses i each m = i
+  host-turn w n q (acts h out) i each m =
       record { host = m .0; end = i .end; toMachine = joined Down (w .toMachine) out (i .toMachine) (m .1); toHost = each }
 
   machine-turn : (w : World H M) (q : List Frame) (t : Turn M) → Holds w → Each Down q → Returns EndOk Up t → Holds (machineTurn w q t)
@@ -56,8 +56,8 @@ module _ {H M X : Type 0} (ends : Ends H M X) (HostOk : H → Type 0) (EndOk : M
             let each = subst (Each Down) e (i .toMachine) in machine-turn w (f ∷ q) (ends .machineFrame (w .machine) f b) i each (c .machineFrame (w .machine) f b (i .end) (each .0));
         lostM = λ w q l i. record { host = i .host; end = i .end; toMachine = without Down l (i .toMachine); toHost = i .toHost };
         keptH = λ w f q b e i.
-            let each = subst (Each Up) e (i .toHost) in host-turn w (f ∷ q) (ends .hostFrame (w .host) f b) i each (c .hostFrame (w .host) f b (i .host) (each .0));
+            let each = subst (Each Up) e (i .toHost) in host-turn w (counts ends (w .host) f) (f ∷ q) (ends .hostFrame (w .host) f b) i each (c .hostFrame (w .host) f b (i .host) (each .0));
         lostH = λ w q l i. record { host = i .host; end = i .end; toMachine = i .toMachine; toHost = without Up l (i .toHost) };
-        timerH = λ w b i. host-turn w (w .toHost) (ends .hostTimer (w .host) b) i (i .toHost) (c .hostTimer (w .host) b (i .host));
+        timerH = λ w b i. host-turn w 0 (w .toHost) (ends .hostTimer (w .host) b) i (i .toHost) (c .hostTimer (w .host) b (i .host));
         timerM = λ w b i. machine-turn w (w .toMachine) (ends .machineTimer (w .machine) b) i (i .toMachine) (c .machineTimer (w .machine) b (i .end));
       }

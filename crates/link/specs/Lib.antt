@@ -1,5 +1,7 @@
 pub mod Link
 pub mod LinkLaws
+pub mod Counted
+pub mod CountedLaws
 pub mod CallLaws
 pub mod FlightLaws
 pub mod NumberedLaws
@@ -12,4 +14,5 @@ pub mod ByteLaws
 pub mod WindowLaws
 pub mod Bounded
 pub mod BoundedLaws
+pub mod FewLaws
 pub mod Theorem

@@ -1,11 +1,12 @@
 -- The link (PROTOCOL 6, 'Link'): two queues of frames between two ends, and the events. Generic in the ends and in
 -- what else may happen.
 use Prim.Native.Nat.{ℕ, _+_}
-use mathlib.Core.Bool.{cond as pick}
+use mathlib.Core.Bool.{Bool, _&&_, cond as pick}
 use mathlib.Core.List.{List, [], _∷_, _++_}
 use lib.ListN.{length, take}
 use lib.Dec.{eqb}
 use Rattle.buffer.specs.declared.Written.{Written}
+use Rattle.message.specs.Read.{fields}
 use Rattle.message.specs.Write.{layout}
 use Rattle.step.specs.Step.{Outcome, Sending, nothing, sends}
 
@@ -34,21 +35,29 @@ abbrev pub queued : Sending → List Frame
 queued nothing = []
 queued (sends what) = layout what ∷ []
 
--- The ends, the frames on their way to each, and how many host frames the link has taken.
+-- The ends, the frames on their way to each, how many host frames the link has taken, and how many frames that are to be counted it has
+-- handed to the host.
 pub record World (H M : Type 0) : Type 0 where
   pub host : H
   pub machine : M
   pub toMachine : List Frame
   pub toHost : List Frame
   pub taken : ℕ
+  pub heard : ℕ
 
--- The calls of the two ends, on a frame and on a timer, each lent a reply buffer; and what each event of X does, beside the link's own.
+-- Which frames handed to the host are to be counted; the calls of the two ends, on a frame and on a timer, each lent a reply buffer; and what
+-- each event of X does, beside the link's own.
 pub record Ends (H M X : Type 0) : Type 0 where
+  pub hears : H → Frame → Bool
   pub hostFrame : H → Frame → List ℕ → Turn H
   pub hostTimer : H → List ℕ → Turn H
   pub machineFrame : M → Frame → List ℕ → Turn M
   pub machineTimer : M → List ℕ → Turn M
   pub further : World H M → X → World H M
+
+-- to be counted by a host with this version and verdict: a frame that can be read while the verdict is 0
+abbrev pub hearing : ℕ → ℕ → Frame → Bool
+hearing version verdict f = eqb (fields version f .refusal) 0 && eqb verdict 0
 
 -- The link's own events. Each but a drop is one call, with a reply buffer of any length and content.
 pub data Own : Type 0 where
@@ -70,19 +79,29 @@ module _ {H M : Type 0} where
   abbrev pub machineTurn : World H M → List Frame → Turn M → World H M
   machineTurn w rest refuses = w
   machineTurn w rest (acts m out) =
-      record { host = w .host; machine = m; toMachine = rest; toHost = w .toHost ++ out; taken = w .taken }
+      record { host = w .host; machine = m; toMachine = rest; toHost = w .toHost ++ out; taken = w .taken; heard = w .heard }
 
-  abbrev pub hostTurn : World H M → List Frame → Turn H → World H M
-  hostTurn w rest refuses = w
-  hostTurn w rest (acts h out) =
-      record { host = h; machine = w .machine; toMachine = w .toMachine ++ out; toHost = rest; taken = w .taken + length out }
+  -- n: how many frames to be counted the call is handed
+  abbrev pub hostTurn : World H M → ℕ → List Frame → Turn H → World H M
+  hostTurn w n rest refuses = w
+  hostTurn w n rest (acts h out) =
+      record {
+        host = h;
+        machine = w .machine;
+        toMachine = w .toMachine ++ out;
+        toHost = rest;
+        taken = w .taken + length out;
+        heard = w .heard + n;
+      }
 
   -- the world with another queue
   abbrev pub withToMachine : World H M → List Frame → World H M
-  withToMachine w q = record { host = w .host; machine = w .machine; toMachine = q; toHost = w .toHost; taken = w .taken }
+  withToMachine w q =
+      record { host = w .host; machine = w .machine; toMachine = q; toHost = w .toHost; taken = w .taken; heard = w .heard }
 
   abbrev pub withToHost : World H M → List Frame → World H M
-  withToHost w q = record { host = w .host; machine = w .machine; toMachine = w .toMachine; toHost = q; taken = w .taken }
+  withToHost w q =
+      record { host = w .host; machine = w .machine; toMachine = w .toMachine; toHost = q; taken = w .taken; heard = w .heard }
 
   -- what an event makes of the first frame of a queue and of those behind it; an event on an empty queue changes nothing
   abbrev pub onFirst : World H M → List Frame → (Frame → List Frame → World H M) → World H M
@@ -90,14 +109,18 @@ module _ {H M : Type 0} where
   onFirst w (f ∷ q) event = event f q
 
   module _ {X : Type 0} (ends : Ends H M X) where
+    -- how many to be counted a frame is
+    abbrev pub counts : H → Frame → ℕ
+    counts h f = pick (ends .hears h f) 1 0
+
     abbrev pub ownStep : World H M → Own → World H M
     ownStep w (handToMachine b) = onFirst w (w .toMachine) (λ f q. machineTurn w q (ends .machineFrame (w .machine) f b))
     ownStep w (keepToMachine b) = onFirst w (w .toMachine) (λ f q. machineTurn w (f ∷ q) (ends .machineFrame (w .machine) f b))
     ownStep w dropToMachine = onFirst w (w .toMachine) (λ f q. withToMachine w q)
-    ownStep w (handToHost b) = onFirst w (w .toHost) (λ f q. hostTurn w q (ends .hostFrame (w .host) f b))
-    ownStep w (keepToHost b) = onFirst w (w .toHost) (λ f q. hostTurn w (f ∷ q) (ends .hostFrame (w .host) f b))
+    ownStep w (handToHost b) = onFirst w (w .toHost) (λ f q. hostTurn w (counts (w .host) f) q (ends .hostFrame (w .host) f b))
+    ownStep w (keepToHost b) = onFirst w (w .toHost) (λ f q. hostTurn w (counts (w .host) f) (f ∷ q) (ends .hostFrame (w .host) f b))
     ownStep w dropToHost = onFirst w (w .toHost) (λ f q. withToHost w q)
-    ownStep w (hostTimer b) = hostTurn w (w .toHost) (ends .hostTimer (w .host) b)
+    ownStep w (hostTimer b) = hostTurn w 0 (w .toHost) (ends .hostTimer (w .host) b)
     ownStep w (machineTimer b) = machineTurn w (w .toMachine) (ends .machineTimer (w .machine) b)
 
     abbrev pub step : World H M → Event X → World H M

@@ -2,7 +2,7 @@
 use Prim.Native.Nat.{ℕ}
 use mathlib.Core.Path.{_≡_, refl}
 use mathlib.Core.List.{List, [], _∷_}
-use Rattle.link.specs.Link.{Frame, Turn, refuses, acts, World, Ends, Own, Event, own, further, handToMachine, keepToMachine, dropToMachine, handToHost, keepToHost, dropToHost, hostTimer, machineTimer, machineTurn, hostTurn, withToMachine, withToHost, onFirst, ownStep, step, run}
+use Rattle.link.specs.Link.{Frame, Turn, refuses, acts, World, Ends, Own, Event, own, further, handToMachine, keepToMachine, dropToMachine, handToHost, keepToHost, dropToHost, hostTimer, machineTimer, machineTurn, hostTurn, withToMachine, withToHost, onFirst, counts, ownStep, step, run}
 
 -- A queue, and what is left of it when one frame is lost, from anywhere in it.
 pub data Lost : List Frame → List Frame → Type 0 where
@@ -21,10 +21,10 @@ module _ {H M X : Type 0} (ends : Ends H M X) where
   droppedToMachine w q = onFirst w q (λ f rest. withToMachine w rest)
 
   abbrev pub handedToHost : World H M → List ℕ → List Frame → World H M
-  handedToHost w b q = onFirst w q (λ f rest. hostTurn w rest (ends .hostFrame (w .host) f b))
+  handedToHost w b q = onFirst w q (λ f rest. hostTurn w (counts ends (w .host) f) rest (ends .hostFrame (w .host) f b))
 
   abbrev pub keptToHost : World H M → List ℕ → List Frame → World H M
-  keptToHost w b q = onFirst w q (λ f rest. hostTurn w (f ∷ rest) (ends .hostFrame (w .host) f b))
+  keptToHost w b q = onFirst w q (λ f rest. hostTurn w (counts ends (w .host) f) (f ∷ rest) (ends .hostFrame (w .host) f b))
 
   abbrev pub droppedToHost : World H M → List Frame → World H M
   droppedToHost w q = onFirst w q (λ f rest. withToHost w rest)
@@ -36,9 +36,9 @@ module _ {H M X : Type 0} (ends : Ends H M X) where
         → Holds (machineTurn w (f ∷ q) (ends .machineFrame (w .machine) f b))
     pub lostM : (w : World H M) (q : List Frame) → Lost (w .toMachine) q → Holds w → Holds (withToMachine w q)
     pub keptH : (w : World H M) (f : Frame) (q : List Frame) (b : List ℕ) → w .toHost ≡ f ∷ q → Holds w
-        → Holds (hostTurn w (f ∷ q) (ends .hostFrame (w .host) f b))
+        → Holds (hostTurn w (counts ends (w .host) f) (f ∷ q) (ends .hostFrame (w .host) f b))
     pub lostH : (w : World H M) (q : List Frame) → Lost (w .toHost) q → Holds w → Holds (withToHost w q)
-    pub timerH : (w : World H M) (b : List ℕ) → Holds w → Holds (hostTurn w (w .toHost) (ends .hostTimer (w .host) b))
+    pub timerH : (w : World H M) (b : List ℕ) → Holds w → Holds (hostTurn w 0 (w .toHost) (ends .hostTimer (w .host) b))
     pub timerM : (w : World H M) (b : List ℕ) → Holds w → Holds (machineTurn w (w .toMachine) (ends .machineTimer (w .machine) b))
 
   module _ (Holds : World H M → Type 0) (c : Closed Holds) where
@@ -47,9 +47,9 @@ module _ {H M X : Type 0} (ends : Ends H M X) where
     handM w f q refuses h k = h
     handM w f q (acts m out) h k = c .lostM (machineTurn w (f ∷ q) (acts m out)) q here k
 
-    handH : (w : World H M) (f : Frame) (q : List Frame) (t : Turn H) → Holds w → Holds (hostTurn w (f ∷ q) t) → Holds (hostTurn w q t)
-    handH w f q refuses h k = h
-    handH w f q (acts e out) h k = c .lostH (hostTurn w (f ∷ q) (acts e out)) q here k
+    handH : (w : World H M) (n : ℕ) (f : Frame) (q : List Frame) (t : Turn H) → Holds w → Holds (hostTurn w n (f ∷ q) t) → Holds (hostTurn w n q t)
+    handH w n f q refuses h k = h
+    handH w n f q (acts e out) h k = c .lostH (hostTurn w n (f ∷ q) (acts e out)) q here k
 
     handedM : (w : World H M) (b : List ℕ) (q : List Frame) → w .toMachine ≡ q → Holds w → Holds (handedToMachine ends w b q)
     handedM w b [] e h = h
@@ -65,7 +65,7 @@ module _ {H M X : Type 0} (ends : Ends H M X) where
 
     handedH : (w : World H M) (b : List ℕ) (q : List Frame) → w .toHost ≡ q → Holds w → Holds (handedToHost ends w b q)
     handedH w b [] e h = h
-    handedH w b (f ∷ q) e h = handH w f q (ends .hostFrame (w .host) f b) h (c .keptH w f q b e h)
+    handedH w b (f ∷ q) e h = handH w (counts ends (w .host) f) f q (ends .hostFrame (w .host) f b) h (c .keptH w f q b e h)
 
     keptH : (w : World H M) (b : List ℕ) (q : List Frame) → w .toHost ≡ q → Holds w → Holds (keptToHost ends w b q)
     keptH w b [] e h = h

@@ -8,7 +8,7 @@ use mathlib.Core.Logic.{_⊎_, inl, inr, ⊎-elim}
 use native.Mathlib.Omega.{arith}
 use lib.Dec.{eqb}
 use borrow.Author.Tests.{eqb-true, eqb-false}
-use Rattle.link.specs.Link.{Frame, Turn, refuses, acts, Ends, World, machineTurn, hostTurn, withToMachine, withToHost}
+use Rattle.link.specs.Link.{Frame, Turn, refuses, acts, Ends, World, machineTurn, hostTurn, withToMachine, withToHost, counts}
 use Rattle.link.specs.LinkLaws.{Closed}
 use Rattle.link.specs.CallLaws as call
 use Rattle.link.specs.CallLaws.{Comes}
@@ -164,13 +164,13 @@ module _ {H M : Type 0} (t : Transfer H M) where
 
       -- ---- the sender's steps
       -- it stays and sends nothing
-      quiet : (x : H) (rest : List Frame) → t .Stage p x → Up m p rest → Inv (hostTurn w rest (acts x []))
-      quiet x rest g f = beside m (h .lower) (h .upper) (h .few) g (h .end-is) (rw (append-nil (w .toMachine)) (h .down)) f
+      quiet : (n : ℕ) (x : H) (rest : List Frame) → t .Stage p x → Up m p rest → Inv (hostTurn w n rest (acts x []))
+      quiet n x rest g f = beside m (h .lower) (h .upper) (h .few) g (h .end-is) (rw (append-nil (w .toMachine)) (h .down)) f
 
       -- it comes to the next stage
-      onward : (k : ℕ) (x : H) (out rest : List Frame) → t .Stage (suc p) x → p ≤ k → k < m + 1 → ((i : ℕ) → i + 1 ≡ p → t .fit i ≡ true)
-          → Down m (suc p) (w .toMachine ++ out) → Flight (t .up) k (m + 1) rest → Inv (hostTurn w rest (acts x out))
-      onward k x out rest g l b fits d f = (
+      onward : (n k : ℕ) (x : H) (out rest : List Frame) → t .Stage (suc p) x → p ≤ k → k < m + 1 → ((i : ℕ) → i + 1 ≡ p → t .fit i ≡ true)
+          → Down m (suc p) (w .toMachine ++ out) → Flight (t .up) k (m + 1) rest → Inv (hostTurn w n rest (acts x out))
+      onward n k x out rest g l b fits d f = (
         m,
         suc p,
         record {
@@ -189,27 +189,27 @@ module _ {H M : Type 0} (t : Transfer H M) where
           below i less true e = fits i (eqb-true (i + 1) p e)
           below i less false e = h .fitting i (omega (arith, eqb-false (i + 1) p e))
 
-      on-moved : (k : ℕ) (x : Turn H) (rest : List Frame) → k < m + 1 → Moved p k x → Up m p rest → Flight (t .up) k (m + 1) rest → Inv (hostTurn w rest x)
-      on-moved k x rest b refused u f = (m, p, h)
-      on-moved k x rest b (stays y g) u f = quiet y rest g u
-      on-moved k x rest b (advances y g l more fits) u f =
-          onward k y (t .down p ∷ []) rest g l b fits
+      on-moved : (n k : ℕ) (x : Turn H) (rest : List Frame) → k < m + 1 → Moved p k x → Up m p rest → Flight (t .up) k (m + 1) rest → Inv (hostTurn w n rest x)
+      on-moved n k x rest b refused u f = (m, p, h)
+      on-moved n k x rest b (stays y g) u f = quiet n y rest g u
+      on-moved n k x rest b (advances y g l more fits) u f =
+          onward n k y (t .down p ∷ []) rest g l b fits
           (wider-line (t .down) (t .Passed) (omega arith) (omega arith) (then-line (t .down) (t .Passed) p (omega (arith, h .lower)) (omega arith) (h .down))) f
-      on-moved k x rest b (finishes y g l all fits) u f =
-          onward k y [] rest g l b fits (rw (append-nil (w .toMachine)) (wider-line (t .down) (t .Passed) (omega arith) (omega arith) (h .down))) f
+      on-moved n k x rest b (finishes y g l all fits) u f =
+          onward n k y [] rest g l b fits (rw (append-nil (w .toMachine)) (wider-line (t .down) (t .Passed) (omega arith) (omega arith) (h .down))) f
 
-      on-ticked : (x : Turn H) → Ticked p x → Inv (hostTurn w (w .toHost) x)
+      on-ticked : (x : Turn H) → Ticked p x → Inv (hostTurn w 0 (w .toHost) x)
       on-ticked x refused = (m, p, h)
-      on-ticked x (still y g) = quiet y (w .toHost) g (h .up)
+      on-ticked x (still y g) = quiet 0 y (w .toHost) g (h .up)
       on-ticked x (resends c y e less g) =
           beside m (h .lower) (h .upper) (h .few) g (h .end-is)
           (wider-line (t .down) (t .Passed) (omega arith) (omega (arith, e)) (then-line (t .down) (t .Passed) c (omega (arith, h .lower)) (omega (arith, e)) (h .down))) (h .up)
 
-      kept-host : Sender → (f : Frame) (q : List Frame) (b : List ℕ) → Up m p (f ∷ q) → Inv (hostTurn w (f ∷ q) (ends .hostFrame (w .host) f b))
+      kept-host : Sender → (f : Frame) (q : List Frame) (b : List ℕ) → Up m p (f ∷ q) → Inv (hostTurn w (counts ends (w .host) f) (f ∷ q) (ends .hostFrame (w .host) f b))
       kept-host s f q b queue =
           let x : First (t .up) (p - 1) (m + 1) f q = first (t .up) queue in
-          subst (λ (y : Frame). Inv (hostTurn w (f ∷ q) (ends .hostFrame (w .host) y b))) (sym (x .frame-is))
-          (on-moved (x .number) (ends .hostFrame (w .host) (t .up (x .number)) b) (f ∷ q) (x .below)
+          subst (λ (y : Frame). Inv (hostTurn w (counts ends (w .host) f) (f ∷ q) (ends .hostFrame (w .host) y b))) (sym (x .frame-is))
+          (on-moved (counts ends (w .host) f) (x .number) (ends .hostFrame (w .host) (t .up (x .number)) b) (f ∷ q) (x .below)
           (s .heeds p (w .host) (x .number) b (h .stage) (x .from) (omega (arith, x .below, h .lower))) queue (x .whole))
 
     -- ---- which frame is the first of a queue

@@ -1,6 +1,7 @@
 -- The bytes of the machine's ROM window stay, whatever frames come: no host is assumed, and no order of frames.
 use Prim.Native.Nat.{ℕ}
 use mathlib.Core.Path.{refl, _∙_}
+use mathlib.Core.Bool.{Bool, cond as pick}
 use mathlib.Core.List.{List, _∷_}
 use lib.ListN.{length}
 use Rattle.memory.specs.Memory.{laid, WindowKept}
@@ -39,21 +40,21 @@ module _ {H : Type 0} (ms : Settings) (old : List ℕ) where
   abbrev pub Kept : World H End → Type 0
   Kept w = WindowKept (ms .window) old (w .machine .memory)
 
-  on-host : (w : World H End) (rest : List Frame) (t : Turn H) → Kept w → Kept (hostTurn w rest t)
-  on-host w rest refuses k = k
-  on-host w rest (acts h out) k = k
+  on-host : (w : World H End) (n : ℕ) (rest : List Frame) (t : Turn H) → Kept w → Kept (hostTurn w n rest t)
+  on-host w n rest refuses k = k
+  on-host w n rest (acts h out) k = k
 
-  pub window-closed : {X : Type 0} (frame : H → Frame → List ℕ → Turn H) (timer : H → List ℕ → Turn H) (more : World H End → X → World H End)
-      → Closed (endsWith ms frame timer more) Kept
-  window-closed frame timer more =
+  pub window-closed : {X : Type 0} (hears : H → Frame → Bool) (frame : H → Frame → List ℕ → Turn H) (timer : H → List ℕ → Turn H) (more : World H End → X → World H End)
+      → Closed (endsWith ms hears frame timer more) Kept
+  window-closed hears frame timer more =
       record {
         keptM = λ w f q b e k.
             came (λ (t : Turn End). Kept (machineTurn w (f ∷ q) t)) _ _ _ (on-frame ms (w .machine .machine) (w .machine .memory) b f) k
             (λ a x. react-keeps ms (w .machine .machine) (fields (ms .version) f) f (w .machine .memory) a x ∙ k a x);
         lostM = λ w q l k. k;
-        keptH = λ w f q b e k. on-host w (f ∷ q) (frame (w .host) f b) k;
+        keptH = λ w f q b e k. on-host w (pick (hears (w .host) f) 1 0) (f ∷ q) (frame (w .host) f b) k;
         lostH = λ w q l k. k;
-        timerH = λ w b k. on-host w (w .toHost) (timer (w .host) b) k;
+        timerH = λ w b k. on-host w 0 (w .toHost) (timer (w .host) b) k;
         timerM = λ w b k.
             came (λ (t : Turn End). Kept (machineTurn w (w .toMachine) t)) _ _ _ (on-timer ms (w .machine .machine) (w .machine .memory) b) k k;
       }

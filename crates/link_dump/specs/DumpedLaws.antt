@@ -13,6 +13,7 @@ use Rattle.step.specs.Step.{first}
 use Rattle.machine_record.specs.declared.Settings.{Settings as MachineSettings}
 use Rattle.machine_record.specs.Record as machine
 use Rattle.machine_checks.specs.Checks as machineChecks
+use Rattle.counts.specs.Counts.{sum, top}
 use Rattle.dump_record.specs.declared.Settings.{Settings as DumpSettings}
 use Rattle.dump_timer.specs.Timer.{onTimer}
 use Rattle.dump_checks.specs.Checks as dumpChecks
@@ -26,21 +27,22 @@ use Rattle.link.specs.Bounded.{Alike, runWithin}
 use Rattle.link.specs.BoundedLaws.{always-within}
 use Rattle.link.specs.ByteLaws.{same-byte}
 use Rattle.link.specs.Unrefused.{Unrefused}
+use Rattle.link.specs.CountedLaws.{fresh as fresh-counts}
 use Rattle.link.specs.MachineEnd.{End}
 use Rattle.link.specs.MachineEndLaws.{frame-unrefused, timer-unrefused, as-accepted}
 use Rattle.link_dump.specs.Model.{Host, hostEnd, dumpEnds, freshWorld, after, Copied, Dumped}
 use Rattle.link_dump.specs.FilledLaws as filled
 use Rattle.link_dump.specs.FilledLaws.{filledWith, past-filled, filled-whole}
-use Rattle.link_dump.specs.HostLaws.{heard, timed}
+use Rattle.link_dump.specs.HostLaws.{heard, counted, timed}
 use Rattle.link_dump.specs.AloneLaws as alone
-use Rattle.link_dump.specs.AloneLaws.{Good, alone-dump, fresh, bound}
+use Rattle.link_dump.specs.AloneLaws.{Known, alone-dump, fresh, bound}
 use Rattle.link_dump.specs.InvariantLaws.{Carries, Asks, Tells, asks-read, tells-read, read, Given, given, Inv, closed, fresh-holds}
 
 -- the claim says nothing of the queues
 pub dumped-alike : (s : DumpSettings) (memory buffer : List ℕ) (w v : World Host End) → Alike w v → Dumped s memory buffer w → Dumped s memory buffer v
 dumped-alike s memory buffer w v a d =
-    let x : World Host End = record { host = w .host; machine = w .machine; toMachine = v .toMachine; toHost = v .toHost; taken = w .taken } in
-    let same : x ≡ v = rw (a .0, a .1, a .2) in
+    let x : World Host End = record { host = w .host; machine = w .machine; toMachine = v .toMachine; toHost = v .toHost; taken = w .taken; heard = w .heard } in
+    let same : x ≡ v = rw (a .0, a .1, a .2, a .3) in
     subst (Dumped s memory buffer) same (record {
       memory-is = d .memory-is;
       buffer-is = d .buffer-is;
@@ -50,6 +52,9 @@ dumped-alike s memory buffer w v a d =
       full = d .full;
       counted = d .counted;
       bounded = d .bounded;
+      handed = d .handed;
+      counts = d .counts;
+      never-rejected = d .never-rejected;
       sound = d .sound;
     })
 
@@ -74,9 +79,9 @@ module _
   abbrev g : Given s ms memory buffer
   g = given s ms memory buffer settled ready
 
-  -- ---- what every run keeps: each end and each frame is as it may be, and the record's numbers are good
+  -- ---- what every run keeps: each end and each frame is as it may be, and the record's numbers and counts are good
   abbrev pub Counts : World Host End → Type 0
-  Counts = Alone (Good s) (λ h. h .session .sent) (dumpEnds s ms)
+  Counts = Alone (Known s (g .some)) (λ h. h .session .sent) (λ h. sum (h .session .counts)) (dumpEnds s ms)
 
   abbrev pub Kept : World Host End → Type 0
   Kept w = Inv s ms memory buffer g w × Counts w
@@ -85,10 +90,10 @@ module _
   inv = closed s ms memory buffer g
 
   counting : Closed (dumpEnds s ms) Counts
-  counting = alone-dump s (g .some) (dumpEnds s ms) (heard s) (timed s)
+  counting = alone-dump s (g .some) (dumpEnds s ms) (heard s) (timed s) (counted s)
 
   at-first : Kept (freshWorld ms memory buffer)
-  at-first = (fresh-holds s ms memory buffer g, (fresh s (g .some) buffer, refl))
+  at-first = (fresh-holds s ms memory buffer g, ((fresh s (g .some) buffer, fresh-counts), refl, refl))
 
   pub kept : (es : List (Event ⊥)) → Kept (after s ms memory buffer es)
   kept es = (
@@ -105,7 +110,7 @@ module _
   module _ (w : World Host End) (k : Kept w) where
     pub claimed : Dumped s memory buffer w
     claimed =
-        let n = k .1 .0 in
+        let n = k .1 .0 .0 in
         let whole = g .whole in
         let few = n .filled in
         record {
@@ -117,30 +122,34 @@ module _
           full = λ e. full (w .host .session .verdict) (w .host .session .filled) (n .unfinished) e;
           counted = omega (arith, k .1 .1);
           bounded = bound s (g .some) (w .host) n;
-          sound = alone.never-bad s (g .some) (w .host) n;
+          handed = k .1 .2;
+          counts = k .1 .0 .1;
+          never-rejected = k .1 .0 .1 .not-rejected (n .never);
+          sound = λ l. alone.never-bad s (g .some) (w .host) n (k .1 .0 .1) (omega (arith, k .1 .2));
         }
       where
         full : (v f : ℕ) → ((v ≡ 1 → ⊥) → f < s .length) → f ≡ s .length → v ≡ 1
         full v f u e = elim (ℕ-discrete v 1) [ yes p ↦ p | no p ↦ absurd (omega (arith, u p)) ]
 
-    -- ---- refusals
-    host-accepted : (reply : List ℕ) → 1500 ≤ length reply → dumpChecks.refusal s (w .host .session) (length (w .host .buffer)) (length reply) ≡ 0
-    unfolding first
-    host-accepted reply h = rw (claimed .size, settled, claimed .sound, le-leb 1500 (length reply) h)
+    -- ---- refusals, as long as no count can be at its top
+    module _ (short : w .heard < top) where
+      host-accepted : (reply : List ℕ) → 1500 ≤ length reply → dumpChecks.refusal s (w .host .session) (length (w .host .buffer)) (length reply) ≡ 0
+      unfolding first
+      host-accepted reply h = rw (claimed .size, settled, claimed .sound short, le-leb 1500 (length reply) h)
 
-    machine-accepted : (reply : List ℕ) → 1500 ≤ length reply → machineChecks.refusal ms (w .machine .machine) (length (w .machine .memory)) (length reply) ≡ 0
-    machine-accepted reply h =
-        rw (k .0 .end .held) (as-accepted ms machine.offering (w .machine .machine) (length memory) (length reply) (omega arith) (omega (arith, k .0 .end .state)) h ready)
+      machine-accepted : (reply : List ℕ) → 1500 ≤ length reply → machineChecks.refusal ms (w .machine .machine) (length (w .machine .memory)) (length reply) ≡ 0
+      machine-accepted reply h =
+          rw (k .0 .end .held) (as-accepted ms machine.offering (w .machine .machine) (length memory) (length reply) (omega arith) (omega (arith, k .0 .end .state)) h ready)
 
-    pub unrefused : Unrefused (dumpEnds s ms) w
-    unrefused =
-        record {
-          hostFrame = λ f q b e l.
-              call.frame-unrefused hostEnd (s .version) _ f (w .host .session) (w .host .buffer) b (dump.onFrame s (w .host .session) f (w .host .buffer)) (host-accepted b l)
-              (read (s .version) (Tells memory) (tells-read (s .version) memory) f (subst (Each (Carries (Tells memory))) e (k .0 .toHost) .0));
-          hostTimer = λ b l.
-              call.unrefused hostEnd _ (w .host .session) (w .host .buffer) b (dump.does s (onTimer s (w .host .session)) (w .host .buffer)) (host-accepted b l);
-          machineFrame = λ f q b e l. frame-unrefused ms (w .machine .machine) (w .machine .memory) b f (machine-accepted b l)
-              (read (ms .version) Asks (asks-read (ms .version)) f (subst (Each (Carries Asks)) e (k .0 .toMachine) .0));
-          machineTimer = λ b l. timer-unrefused ms (w .machine .machine) (w .machine .memory) b (machine-accepted b l);
-        }
+      pub unrefused : Unrefused (dumpEnds s ms) w
+      unrefused =
+          record {
+            hostFrame = λ f q b e l.
+                call.frame-unrefused hostEnd (s .version) _ f (w .host .session) (w .host .buffer) b (dump.onFrame s (w .host .session) f (w .host .buffer)) (host-accepted b l)
+                (read (s .version) (Tells memory) (tells-read (s .version) memory) f (subst (Each (Carries (Tells memory))) e (k .0 .toHost) .0));
+            hostTimer = λ b l.
+                call.unrefused hostEnd _ (w .host .session) (w .host .buffer) b (dump.does s (onTimer s (w .host .session)) (w .host .buffer)) (host-accepted b l);
+            machineFrame = λ f q b e l. frame-unrefused ms (w .machine .machine) (w .machine .memory) b f (machine-accepted b l)
+                (read (ms .version) Asks (asks-read (ms .version)) f (subst (Each (Carries Asks)) e (k .0 .toMachine) .0));
+            machineTimer = λ b l. timer-unrefused ms (w .machine .machine) (w .machine .memory) b (machine-accepted b l);
+          }

@@ -24,6 +24,7 @@ use Rattle.machine_checks.specs.Checks as machineChecks
 use Rattle.machine_checks.specs.Laws.{in-range}
 use Rattle.machine_next.specs.Next.{react}
 use Rattle.machine_timer.specs.Timer.{asksDump, onTimer}
+use Rattle.counts.specs.declared.Counts.{Counts}
 use Rattle.dump_record.specs.declared.Settings.{Settings as DumpSettings}
 use Rattle.dump_checks.specs.Checks as dumpChecks
 use Rattle.link.specs.Link.{Frame, Turn, acts, queued, World}
@@ -127,11 +128,11 @@ module _ (s : DumpSettings) (ms : MachineSettings) (memory buffer : List ℕ) (g
 
   module _ (h : Host) (i : HostHolds h) where
     -- the buffer as it was, and with a reply laid over it
-    as-was : {w f n k v t : ℕ} (x : Host) → Good s x → Now x w f n k v t (h .buffer) → f ≡ h .session .filled → HostHolds x
+    as-was : {w f n k v t : ℕ} {c : Counts} (x : Host) → Good s x → Now x w f n k v t c (h .buffer) → f ≡ h .session .filled → HostHolds x
     as-was x k n e = record { good = k; held = n .buffer-is ∙ i .held ∙ ap filledTo (sym (n .filled ∙ e)) }
 
-    laid : {w n k v t : ℕ} (x : Host) (f : Frame) (d : List ℕ) → Good s x → Carries (Tells memory) f → Reply s (h .session) f d
-        → Now x w (h .session .filled + length d) n k v t (over d (h .session .filled) (h .buffer)) → HostHolds x
+    laid : {w n k v t : ℕ} {m : Counts} (x : Host) (f : Frame) (d : List ℕ) → Good s x → Carries (Tells memory) f → Reply s (h .session) f d
+        → Now x w (h .session .filled + length d) n k v t m (over d (h .session .filled) (h .buffer)) → HostHolds x
     laid x f d k c a n =
         record {
           good = k;

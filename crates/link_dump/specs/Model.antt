@@ -8,12 +8,14 @@ use lib.ListN.{length, drop, getElem?}
 use Rattle.memory.specs.Memory.{bytesFrom}
 use Rattle.machine_record.specs.declared.Settings.{Settings as MachineSettings}
 use Rattle.machine_record.specs.Record.{offering}
+use Rattle.counts.specs.Counts.{sum, top}
 use Rattle.dump_record.specs.declared.Session.{Session}
 use Rattle.dump_record.specs.declared.Settings.{Settings as DumpSettings}
 use Rattle.dump_record.specs.Record.{fresh}
 use Rattle.dump_checks.specs.Checks as dumpChecks
 use Rattle.dump.specs.Dump as dump
-use Rattle.link.specs.Link.{turned, Ends, World, Event, run}
+use Rattle.link.specs.Link.{turned, Ends, World, hearing, Event, run}
+use Rattle.link.specs.Counted.{Counted}
 use Rattle.link.specs.MachineEnd.{End, endsWith, freshWith}
 
 -- The host end: its record and its dump buffer.
@@ -27,8 +29,8 @@ hostEnd h buffer = record { session = h; buffer = buffer }
 -- the calls of both ends, as the code promises them; there are no further events
 abbrev pub dumpEnds : DumpSettings → MachineSettings → Ends Host End ⊥
 dumpEnds s ms =
-    endsWith ms (λ h f b. turned hostEnd (dump.dumpFrame s (h .session) f (h .buffer) b)) (λ h b. turned hostEnd (dump.dumpTimer s (h .session) (h .buffer) b))
-    (λ w x. absurd x)
+    endsWith ms (λ h f. hearing (s .version) (h .session .verdict) f) (λ h f b. turned hostEnd (dump.dumpFrame s (h .session) f (h .buffer) b))
+    (λ h b. turned hostEnd (dump.dumpTimer s (h .session) (h .buffer) b)) (λ w x. absurd x)
 
 -- fresh ends: a waiting host, all numbers 0, and an Offering machine whose first frame, the one that a timer gives, is the only one queued
 abbrev pub freshWorld : MachineSettings → List ℕ → List ℕ → World Host End
@@ -57,5 +59,9 @@ pub record Dumped (s : DumpSettings) (memory buffer : List ℕ) (w : World Host 
   -- frames sent is the number of host frames that the link took, and has its bound
   pub counted : w .host .session .sent ≡ w .taken
   pub bounded : w .host .session .sent ≤ (w .host .session .replies + 1) * (s .repeats + 1) + 1
-  -- the record is none of those that are bad
-  pub sound : dumpChecks.sound s (w .host .session) ≡ true
+  -- the four counts together are the readable frames that the link handed over while the verdict was 0
+  pub handed : sum (w .host .session .counts) ≡ w .heard
+  pub counts : Counted (w .host .session .waiting) (w .host .session .replies) (w .host .session .verdict) (w .host .session .counts)
+  pub never-rejected : w .host .session .counts .rejections ≡ 0
+  -- the record is none of those that are bad, as long as no count can be at its top
+  pub sound : w .heard < top → dumpChecks.sound s (w .host .session) ≡ true

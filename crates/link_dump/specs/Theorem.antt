@@ -3,8 +3,9 @@
 --     filed-dump         a finished dump is the machine's memory, byte for byte
 --     unfinished-dump    otherwise the filled part is, and the rest of the buffer is untouched
 --     counted            frames sent is what the link took, within its bound
---     never-bad          no reached record is a bad one
---     never-refused      no call of either end with a reply buffer of 1,500 bytes is refused
+--     counts-dump        what each of the four counts is, and all of them together
+--     never-bad          in fewer than 2^64 - 1 events no reached record is a bad one
+--     never-refused      nor is a call of either end with a reply buffer of 1,500 bytes refused
 --     bounded-dump, bounded-never-refused    the same on a line with bounded queues
 --     started-dump       the fresh world is what the start calls leave
 use Prim.Native.Nat.{ℕ, _+_, _*_, _≤_, _<_}
@@ -21,12 +22,15 @@ use Rattle.machine_record.specs.declared.Settings.{Settings as MachineSettings}
 use Rattle.machine_record.specs.Record as machine
 use Rattle.machine_checks.specs.Checks as machineChecks
 use Rattle.machine_timer.specs.Timer.{machineTimer}
+use Rattle.counts.specs.Counts.{sum, top}
 use Rattle.dump_record.specs.declared.Session.{Session}
 use Rattle.dump_record.specs.declared.Settings.{Settings as DumpSettings}
 use Rattle.dump_record.specs.Record as dumpRecord
 use Rattle.dump_checks.specs.Checks as dumpChecks
 use Rattle.link.specs.Link.{acts, turn, Event}
+use Rattle.link.specs.Counted.{Counted}
 use Rattle.link.specs.Bounded.{runWithin}
+use Rattle.link.specs.FewLaws.{few, few-within}
 use Rattle.link.specs.Theorem.{bounded}
 use Rattle.link.specs.Unrefused.{Unrefused}
 use Rattle.link.specs.MachineEnd.{machineEnd}
@@ -95,14 +99,22 @@ module _
   pub counted : (session .sent ≡ after s ms memory buffer es .taken) × (session .sent ≤ (session .replies + 1) * (s .repeats + 1) + 1)
   counted = (dumped .counted, dumped .bounded)
 
-  -- No reached record is one of those that a call refuses as bad.
-  pub never-bad : dumpChecks.sound s session ≡ true
-  never-bad = dumped .sound
+  -- What each count of the record is: starts is 0 while the host waits and 1 from then on, advances is the number of replies taken, rejections is
+  -- 0. All four together are the readable frames that the link handed to the host while its verdict was 0; so the rest of these were ignored.
+  pub counts-dump : Counted (session .waiting) (session .replies) (session .verdict) (session .counts) × (session .counts .rejections ≡ 0)
+      × (sum (session .counts) ≡ after s ms memory buffer es .heard)
+  counts-dump = (dumped .counts, dumped .never-rejected, dumped .handed)
 
-  -- No call of either end with a reply buffer of at least 1,500 bytes is refused, whatever the events before and their buffers: on a timer, or on the
-  -- next frame of its queue.
-  pub never-refused : Unrefused (dumpEnds s ms) (after s ms memory buffer es)
-  never-refused = unrefused s ms memory buffer settled ready (after s ms memory buffer es) (kept s ms memory buffer settled ready es)
+  -- After fewer than 2^64 - 1 events the record is none of those that a call refuses as bad.
+  pub never-bad : length es < top → dumpChecks.sound s session ≡ true
+  never-bad short = dumped .sound (omega (arith, few (dumpEnds s ms) (freshWorld ms memory buffer) es))
+
+  -- Nor is a call of either end with a reply buffer of at least 1,500 bytes refused, whatever the events before and their buffers: on a timer, or
+  -- on the next frame of its queue.
+  pub never-refused : length es < top → Unrefused (dumpEnds s ms) (after s ms memory buffer es)
+  never-refused short =
+      unrefused s ms memory buffer settled ready (after s ms memory buffer es) (kept s ms memory buffer settled ready es)
+      (omega (arith, few (dumpEnds s ms) (freshWorld ms memory buffer) es))
 
   -- On a line whose queues hold at most n frames, where a frame that finds its queue full is lost, the same claim holds, and no such call is refused.
   pub bounded-dump : (n : ℕ) → Dumped s memory buffer (runWithin n (dumpEnds s ms) (freshWorld ms memory buffer) es)
@@ -111,5 +123,7 @@ module _
       dumped-alike s memory buffer (after s ms memory buffer (x .0)) _ (x .1)
       (claimed s ms memory buffer settled ready (after s ms memory buffer (x .0)) (kept s ms memory buffer settled ready (x .0)))
 
-  pub bounded-never-refused : (n : ℕ) → Unrefused (dumpEnds s ms) (runWithin n (dumpEnds s ms) (freshWorld ms memory buffer) es)
-  bounded-never-refused n = unrefused s ms memory buffer settled ready _ (kept-within s ms memory buffer settled ready n es)
+  pub bounded-never-refused : (n : ℕ) → length es < top → Unrefused (dumpEnds s ms) (runWithin n (dumpEnds s ms) (freshWorld ms memory buffer) es)
+  bounded-never-refused n short =
+      unrefused s ms memory buffer settled ready _ (kept-within s ms memory buffer settled ready n es)
+      (omega (arith, few-within (dumpEnds s ms) n (freshWorld ms memory buffer) es))

@@ -1,14 +1,20 @@
 -- What holds of the host's record of a load alone, against any frames whatever: no machine, no queue.
 use Prim.Native.Nat.{ℕ, _+_, _*_, _≤_, _<_}
-use mathlib.Core.Path.{_≡_, refl}
-use mathlib.Core.Bool.{Bool, true, false}
+use mathlib.Core.Path.{_≡_, refl, ap, _∙_}
+use mathlib.Core.Bool.{Bool, true, false, cond as pick}
 use mathlib.Core.List.{List}
 use native.Mathlib.Omega.{arith}
 use native.Mathlib.Nat.{add-mul, mul-le-mul-right}
+use lib.ListN.{length}
 use lib.Dec.{eqb}
 use borrow.Author.Tests.{eqb-true, eqb-false}
+use Rattle.counts.specs.declared.Counts.{Counts}
+use Rattle.counts.specs.Counts.{sum}
 use Rattle.load_record.specs.declared.Session.{Session}
-use Rattle.link.specs.Link.{Frame, Turn, Ends}
+use Rattle.link.specs.Link.{Frame, Turn, refuses, acts, Ends, counts}
+use Rattle.link.specs.CallLaws.{Unless}
+use Rattle.link.specs.Counted.{Counted}
+use Rattle.link.specs.CountedLaws.{starting, advancing, rejecting, ending, passing, passed-sum, one}
 use Rattle.link.specs.LinkLaws.{Closed}
 use Rattle.link.specs.AloneLaws.{Keeps, Alone, alone}
 use Rattle.link_load.specs.HostLaws.{Now, Sending, Heard, refused, ignored, begins, advances, finishes, rejects, Timed, repeats, givesUp, unconfirmed}
@@ -28,11 +34,17 @@ pub record Numbers (N R w c k v t : ℕ) : Type 0 where
 abbrev pub Good : ℕ → ℕ → Session → Type 0
 Good N R h = Numbers N R (h .waiting) (h .position) (h .repeats) (h .verdict) (h .sent)
 
-module _ (N R : ℕ) (some : 1 ≤ N) (F : ℕ → Frame) where
-  abbrev pub Kept : Session → Turn Session → Type 0
-  Kept = Keeps (Good N R) (λ h. h .sent)
+-- what its counts say
+abbrev pub Counting : Session → Type 0
+Counting h = Counted (h .waiting) (h .position) (h .verdict) (h .counts)
 
-  good : {w c k v t : ℕ} (x : Session) → Now x w c k v t → Numbers N R w c k v t → Good N R x
+module _ (N R : ℕ) (some : 1 ≤ N) (F : ℕ → Frame) where
+  -- a call that is refused, or leaves a good record that counts the frames it returns
+  abbrev pub Kept : Session → Turn Session → Type 0
+  Kept h refuses = Unit {0}
+  Kept h (acts x out) = Good N R x × (x .sent ≡ h .sent + length out)
+
+  good : {w c k v t : ℕ} {m : Counts} (x : Session) → Now x w c k v t m → Numbers N R w c k v t → Good N R x
   good x n g = rw (n .waiting, n .position, n .repeats, n .verdict, n .sent) g
 
   -- what holds of a record whose frame is on its way; and what one position more counts
@@ -48,7 +60,7 @@ module _ (N R : ℕ) (some : 1 ≤ N) (F : ℕ → Frame) where
   on-heard h f t g (ignored x n) = (good x n g, omega arith)
   on-heard h f t g (begins x w v n) = let z = g .waiting w in (good x n (omega arith), omega arith)
   on-heard h f t g (advances x w a l n) = let z = on-way h g w in (good x n (omega arith), omega arith)
-  on-heard h f t g (finishes x w a l n) =
+  on-heard h f t g (finishes x w a _ l n) =
       let z = on-way h g w in
       let all : h .position + 1 ≡ N = omega arith in
       let m : N * (R + 1) ≡ h .position * (R + 1) + (R + 1) = rw (← all) (z .4) in
@@ -62,11 +74,54 @@ module _ (N R : ℕ) (some : 1 ≤ N) (F : ℕ → Frame) where
   on-timed h t g (givesUp x w r l n) = let z = on-way h g w in (good x n (omega arith), omega arith)
   on-timed h t g (unconfirmed x w r l n) = let z = on-way h g w in (good x n (omega arith), omega arith)
 
-  -- so it is in every run, beside any machine and any further events that leave the host alone
+  -- ---- the counts
+  -- a call that is refused, or leaves counts that say what they should, and so many more frames
+  abbrev Raised : Session → ℕ → Turn Session → Type 0
+  Raised h n refuses = Unit {0}
+  Raised h n (acts x out) = Counting x × (sum (x .counts) ≡ sum (h .counts) + n)
+
+  says : {w c k v t : ℕ} {m : Counts} (x : Session) → Now x w c k v t m → Counted w c v m → Counting x
+  says x n k = rw (n .waiting, n .position, n .verdict, n .counts) k
+
+  -- n: how many frames to be counted the call is handed, one until there is a verdict
+  raised : (h : Session) (f : Frame) (n : ℕ) (t : Turn Session) → Good N R h → Counting h → Heard N R F h f t → Unless (n ≡ pick (eqb (h .verdict) 0) 1 0) t
+      → Raised h n t
+  raised h f n t g k refused c = tt
+  raised h f n t g k (ignored x m) c = (says x m (passing k), ap sum (m .counts) ∙ passed-sum (h .verdict) (h .counts) ∙ (rw c))
+  raised h f n t g k (begins x w v m) c =
+      (says x m (rw (g .waiting w .0) at (starting k w (omega arith))), ap sum (m .counts) ∙ (omega (arith, one (h .verdict) n v c)))
+  raised h f n t g k (advances x w a l m) c =
+      (says x m (rw (w .0) at (advancing k 0 (omega (arith, w .1)) (omega arith))), ap sum (m .counts) ∙ (omega (arith, one (h .verdict) n (w .1) c)))
+  raised h f n t g k (finishes x w a b l m) c =
+      let last : h .position + 1 ≡ N = omega arith in
+      (says x m (rw (w .0, last) at (advancing k 1 (omega (arith, w .1)) (omega arith))), ap sum (m .counts) ∙ (omega (arith, one (h .verdict) n (w .1) c)))
+  raised h f n t g k (rejects x e w a r m) c =
+      (says x m (rw (w .0) at (rejecting k (omega (arith, w .1)))), ap sum (m .counts) ∙ (omega (arith, one (h .verdict) n (w .1) c)))
+
+  unraised : (h : Session) (t : Turn Session) → Counting h → Timed N R F h t → Raised h 0 t
+  unraised h t k refused = tt
+  unraised h t k (ignored x m) = (says x m k, ap sum (m .counts) ∙ (omega arith))
+  unraised h t k (repeats x w r m) = (says x m (rw (w .0) at (ending k 0 (omega (arith, w .1)) (omega arith))), ap sum (m .counts) ∙ (omega arith))
+  unraised h t k (givesUp x w r l m) = (says x m (rw (w .0) at (ending k 3 (omega (arith, w .1)) (omega arith))), ap sum (m .counts) ∙ (omega arith))
+  unraised h t k (unconfirmed x w r l m) = (says x m (rw (w .0) at (ending k 4 (omega (arith, w .1)) (omega arith))), ap sum (m .counts) ∙ (omega arith))
+
+  -- ---- every run, beside any machine and any further events that leave the host alone
+  abbrev pub Known : Session → Type 0
+  Known h = Good N R h × Counting h
+
+  together : (h : Session) (n : ℕ) (t : Turn Session) → Kept h t → Raised h n t → Keeps Known (λ x. x .sent) (λ x. sum (x .counts)) h n t
+  together h n refuses a b = tt
+  together h n (acts x out) a b = ((a .0, b .0), a .1, b .1)
+
   pub alone-load : {M X : Type 0} (ends : Ends Session M X) → ((h : Session) (f b : List ℕ) → Heard N R F h f (ends .hostFrame h f b))
-      → ((h : Session) (b : List ℕ) → Timed N R F h (ends .hostTimer h b)) → Closed ends (Alone (Good N R) (λ h. h .sent) ends)
-  alone-load ends heard timed =
-      alone (Good N R) (λ h. h .sent) ends (λ h f b g. on-heard h f _ g (heard h f b)) (λ h b g. on-timed h _ g (timed h b))
+      → ((h : Session) (b : List ℕ) → Timed N R F h (ends .hostTimer h b))
+      → ((h : Session) (f b : List ℕ) → Unless (counts ends h f ≡ pick (eqb (h .verdict) 0) 1 0) (ends .hostFrame h f b))
+      → Closed ends (Alone Known (λ h. h .sent) (λ h. sum (h .counts)) ends)
+  alone-load ends heard timed hears =
+      alone Known (λ h. h .sent) (λ h. sum (h .counts)) ends
+      (λ h f b g. let x = heard h f b in let t = ends .hostFrame h f b in
+      together h (counts ends h f) t (on-heard h f t (g .0) x) (raised h f (counts ends h f) t (g .0) (g .1) x (hears h f b)))
+      (λ h b g. let x = timed h b in let t = ends .hostTimer h b in together h 0 t (on-timed h t (g .0) x) (unraised h t (g .1) x))
 
 -- no record has sent more than N (R + 1) frames
 pub bound : (N R : ℕ) (h : Session) → Good N R h → h .sent ≤ N * (R + 1)

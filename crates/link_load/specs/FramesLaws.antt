@@ -179,13 +179,13 @@ module _ {ms : Settings} (fr : Frames ms) (old : List ℕ) where
 
     -- ---- the machine as a receiver, beside any host and any further events
     module _
-        {H X : Type 0} (frame : H → Frame → List ℕ → Turn H) (timer : H → List ℕ → Turn H) (more : World H End → X → World H End)
+        {H X : Type 0} (hears : H → Frame → Bool) (frame : H → Frame → List ℕ → Turn H) (timer : H → List ℕ → Turn H) (more : World H End → X → World H End)
         (Stage : ℕ → H → Type 0) where
       at : (k i : ℕ) (b : List ℕ) {a : MachineAct} → k ≤ fr .many → i < fr .many → byNumber (machineAt k) (i % 256) (takes (machineAt k .parameters) i (laid k)) (laid k) ≡ a
           → Becomes (turned machineEnd (machineFrame ms (machineAt k) (layout (fr .what i)) (laid k) b)) a
       at k i b l n e = subst (Becomes _) e (fr .reacts i (machineAt k) (laid k) b n (length-laid k l))
 
-      pub receiver : Receiver (transfer Stage) (endsWith ms frame timer more)
+      pub receiver : Receiver (transfer Stage) (endsWith ms hears frame timer more)
       receiver =
           record {
             new = λ k b l f. at k k b (omega arith) l (new k l f);

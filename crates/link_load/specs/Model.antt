@@ -18,7 +18,7 @@ use Rattle.load_record.specs.declared.Settings.{Settings as LoadSettings}
 use Rattle.load_record.specs.Record.{fresh}
 use Rattle.load_checks.specs.Checks.{given, frames}
 use Rattle.load.specs.Load.{loadFrame, loadTimer}
-use Rattle.link.specs.Link.{turned, Ends, World, Event, run}
+use Rattle.link.specs.Link.{turned, Ends, World, hearing, Event, run}
 use Rattle.link.specs.MachineEnd.{End, endsWith, freshWith}
 
 -- the host's end is its record alone
@@ -28,7 +28,8 @@ hostEnd h none = h
 -- the calls of both ends, as the code promises them; there are no further events
 abbrev pub loadEnds : LoadSettings → MachineSettings → List ℕ → List ℕ → Ends Session End ⊥
 loadEnds s ms file string =
-    endsWith ms (λ h f b. turned hostEnd (loadFrame s h file string f b)) (λ h b. turned hostEnd (loadTimer s h file string b)) (λ w x. absurd x)
+    endsWith ms (λ h f. hearing (s .version) (h .verdict) f) (λ h f b. turned hostEnd (loadFrame s h file string f b))
+    (λ h b. turned hostEnd (loadTimer s h file string b)) (λ w x. absurd x)
 
 -- fresh ends: a waiting host, and a Requesting machine whose first frame, the one that a timer gives, is the only one queued
 abbrev pub freshWorld : MachineSettings → List ℕ → World Session End

@@ -1,5 +1,5 @@
--- Where what every run keeps holds, the record is not bad and every frame on its way is read: with a reply buffer of 1,500 bytes no call is
--- refused.
+-- Where what every run keeps holds and fewer than 2^64 - 1 frames were handed over, the record is not bad and every frame on its way is read:
+-- with a reply buffer of 1,500 bytes no call is refused.
 use Prim.Native.Nat.{ℕ, zero, suc, _+_, _*_, _%_, _≤_, _<_}
 use mathlib.Core.Path.{_≡_, refl}
 use mathlib.Core.Bool.{Bool, true, false, not, cond as pick}
@@ -28,8 +28,11 @@ use Rattle.version.specs.Version.{known}
 use Rattle.machine_checks.specs.Checks.{refusal as machineRefusal}
 use Rattle.machine_checks.specs.Laws.{in-range}
 use Rattle.machine_number.specs.Number.{after as after-number}
+use Rattle.counts.specs.Counts.{sum, top}
+use Rattle.counts.specs.Laws.{sum-below}
 use Rattle.load_record.specs.declared.Session.{Session}
 use Rattle.load_record.specs.declared.Settings.{Settings as LoadSettings}
+use Rattle.load_record.specs.Record.{tallied}
 use Rattle.load_next.specs.Next as next
 use Rattle.load_timer.specs.Timer as load-timer
 use Rattle.load_checks.specs.Checks as load-checks
@@ -37,25 +40,27 @@ use Rattle.load_checks.specs.Laws.{string-whole}
 use Rattle.load.specs.Load as load
 use Rattle.link.specs.Link.{Frame, World}
 use Rattle.link.specs.CallLaws as call
+use Rattle.link.specs.CountedLaws.{only-ignored}
 use Rattle.link.specs.NumberedLaws.{first-down, first-up}
 use Rattle.link.specs.Unrefused.{Unrefused}
 use Rattle.link.specs.MachineEnd.{End}
 use Rattle.link.specs.MachineEndLaws.{frame-unrefused, timer-unrefused, as-accepted}
 use Rattle.link_load.specs.Model.{hostEnd, loadEnds}
-use Rattle.link_load.specs.AloneLaws.{Good, bound}
+use Rattle.link_load.specs.AloneLaws.{Good, Counting, bound}
 use Rattle.link_load.specs.FramesLaws.{Frames, machineAt, length-laid, said}
 use Rattle.link_load.specs.ImageLaws.{frame-read}
 use Rattle.link_load.specs.ReportLaws.{fr, load-transfer, Kept}
 
--- ---- the host's record alone: one with good numbers is none of those that are bad
-module _ (s : LoadSettings) (N : ℕ) (h : Session) (g : Good N (s .repeats) h) where
+-- ---- the host's record alone: one with good numbers, and counts below their top that say what they should, is none of those that are bad
+module _ (s : LoadSettings) (N : ℕ) (h : Session) (g : Good N (s .repeats) h) (k : Counting h) (t : sum (h .counts) < top) where
   sound : load-checks.sound s h ≡ true
-  sound = rw (le-leb (h .verdict) 4 (g .verdict), le-leb (h .repeats) (s .repeats) (g .repeats), le-leb (h .waiting) 1 (g .flag), blank)
+  sound = rw (le-leb (h .verdict) 4 (g .verdict), le-leb (h .repeats) (s .repeats) (g .repeats), le-leb (h .waiting) 1 (g .flag), sum-below (h .counts) t, blank)
     where
       blank : pick (eqb (h .waiting) 1) (load-checks.blank h) true ≡ true
       blank =
           by-cases (λ (b : Bool). b ≡ true) (eqb (h .waiting) 1)
-          (λ w. let z = g .waiting (eqb-true _ _ w) in rw (eq-eqb _ _ (z .0), eq-eqb _ _ (z .1), eq-eqb _ _ (z .2), eq-eqb _ _ (z .3))) (λ _. refl)
+          (λ w. let z = g .waiting (eqb-true _ _ w) in
+          rw (eq-eqb _ _ (z .0), eq-eqb _ _ (z .1), eq-eqb _ _ (z .2), eq-eqb _ _ (z .3), only-ignored k (eqb-true _ _ w) (z .0) (omega arith))) (λ _. refl)
 
   consistent : load-checks.consistent N s h ≡ true
   consistent = rw (le-leb (h .position) N reaches, le-leb (h .sent) (N * (s .repeats + 1)) (bound N (s .repeats) h g), placed)
@@ -75,19 +80,19 @@ module _ (s : LoadSettings) (N : ℕ) (h : Session) (g : Good N (s .repeats) h) 
 -- so with a reply buffer of 1,500 bytes no call is refused but for its frame
 not-refused : (s : LoadSettings) (file string : List ℕ) (h : Session) (reply : List ℕ) → cutRefusal file (s .«segment_size») ≡ 0
     → load-checks.stringRefusal s string ≡ 0 → s .repeats ≤ 255 → s .«with_parameters» ≤ 1 → known (s .version) ≡ true
-    → Good (load-checks.frames s file) (s .repeats) h → 1500 ≤ length reply → load-checks.refusal s h file string reply ≡ 0
+    → Good (load-checks.frames s file) (s .repeats) h → Counting h → sum (h .counts) < top → 1500 ≤ length reply → load-checks.refusal s h file string reply ≡ 0
 unfolding first demand
-not-refused s file string h reply ok good few mark version g l =
+not-refused s file string h reply ok good few mark version g k t l =
     let r = ready file (s .«segment_size») ok in
     let low = le-leb 1 (s .«segment_size») (r .some) in
     let high = le-leb (s .«segment_size») widest (r .narrow) in
     let whole : imageRefusal file ≡ 0 = rw (low, high) at ok in
-    rw (low, high, le-leb (s .repeats) 255 few, le-leb (s .«with_parameters») 1 mark, version, sound s (load-checks.frames s file) h g, le-leb 1500 (length reply) l, whole, consistent s (load-checks.frames s file) h g, good)
+    rw (low, high, le-leb (s .repeats) 255 few, le-leb (s .«with_parameters») 1 mark, version, sound s (load-checks.frames s file) h g k t, le-leb 1500 (length reply) l, whole, consistent s (load-checks.frames s file) h g k t, good)
 
 module _
     (s : LoadSettings) (ms : MachineSettings) (file string old : List ℕ) (ok : cutRefusal file (s .«segment_size») ≡ 0) (o : Octets file)
     (good : load-checks.stringRefusal s string ≡ 0) (same : ms .version ≡ s .version) (few : s .repeats ≤ 255) (mark : s .«with_parameters» ≤ 1)
-    (fresh : machineRefusal ms requesting (length old) 1500 ≡ 0) (w : World Session End) (k : Kept s ms file string old ok o good w) where
+    (fresh : machineRefusal ms requesting (length old) 1500 ≡ 0) (w : World Session End) (k : Kept s ms file string old ok o good w) (short : w .heard < top) where
   abbrev t : Frames ms
   t = fr s ms file string old ok o good
 
@@ -96,7 +101,7 @@ module _
   version = rw (← same) (in-range ms requesting (length old) 1500 fresh .3)
 
   host-accepted : (reply : List ℕ) → 1500 ≤ length reply → load-checks.refusal s (w .host) file string reply ≡ 0
-  host-accepted reply l = not-refused s file string (w .host) reply ok good few mark version (k .1 .0) l
+  host-accepted reply l = not-refused s file string (w .host) reply ok good few mark version (k .1 .0 .0) (k .1 .0 .1) (omega (arith, k .1 .2)) l
 
   -- the machine's state and memory length stay within their ranges
   any : (a b : Bool) (x y z : Machine) → x .state ≤ 4 → y .state ≤ 4 → z .state ≤ 4 → pick a (pick b x y) z .state ≤ 4
@@ -136,7 +141,7 @@ module _
       record {
         hostFrame = λ f q b e l.
             call.frame-unrefused hostEnd (s .version) (load-checks.refusal s (w .host) file string b) f (w .host) tt b
-            (λ (x : Fields). load.does s file string (next.react (load-checks.frames s file) (w .host) x)) (host-accepted b l) (host-read f q e);
+            (λ (x : Fields). load.does s file string (tallied (w .host) (next.react (load-checks.frames s file) (w .host) x))) (host-accepted b l) (host-read f q e);
         hostTimer = λ b l.
             call.unrefused hostEnd (load-checks.refusal s (w .host) file string b) (w .host) tt b
             (load.does s file string (load-timer.onTimer (load-checks.frames s file) (s .repeats) (w .host))) (host-accepted b l);

@@ -19,16 +19,18 @@ use Rattle.directory.specs.Directory.{trailer, regions}
 use Rattle.holds.specs.Holds.{Absent, Last}
 use Rattle.machine_record.specs.declared.Settings.{Settings as MachineSettings}
 use Rattle.machine_record.specs.Record as machine
+use Rattle.counts.specs.Counts.{sum}
 use Rattle.load_record.specs.declared.Session.{Session}
 use Rattle.load_record.specs.declared.Settings.{Settings as LoadSettings}
 use Rattle.load_checks.specs.Checks.{given, frames}
 use Rattle.link.specs.Link.{World}
+use Rattle.link.specs.Counted.{Counted}
 use Rattle.link.specs.MachineEnd.{End}
 use Rattle.link_load.specs.Model.{leaves, FirstIn}
 
 -- What the host's record says of the machine end, n being the number of the load's frames: waiting, the first 0 are in; rejected, the first
 -- c; finished, the first n; otherwise the first c, or the first c + 1. The bytes of the ROM window are the old ones. Frames sent is the
--- number of host frames that the link took.
+-- number of host frames that the link took, and the four counts together are the readable frames that it handed over while the verdict was 0.
 pub record Report (s : LoadSettings) (ms : MachineSettings) (file string old : List ℕ) (w : World Session End) : Type 0 where
   pub waiting : w .host .waiting ≡ 1 → FirstIn s ms file string old 0 (w .machine) × (w .host .verdict ≡ 0)
   pub rejected : w .host .verdict ≡ 2 → FirstIn s ms file string old (w .host .position) (w .machine)
@@ -38,6 +40,8 @@ pub record Report (s : LoadSettings) (ms : MachineSettings) (file string old : L
   pub window-kept : WindowKept (ms .window) old (w .machine .memory)
   pub counted : w .host .sent ≡ w .taken
   pub bounded : w .host .sent ≤ frames s file * (s .repeats + 1)
+  pub handed : sum (w .host .counts) ≡ w .heard
+  pub counts : Counted (w .host .waiting) (w .host .position) (w .host .verdict) (w .host .counts)
   -- where each verdict stands
   pub rejected-at : w .host .verdict ≡ 2 → w .host .position < frames s file
   pub given-up-at : w .host .verdict ≡ 3 → w .host .position + 1 < frames s file

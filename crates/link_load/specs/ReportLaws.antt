@@ -14,6 +14,7 @@ use Rattle.machine_record.specs.declared.Settings.{Settings as MachineSettings}
 use Rattle.machine_record.specs.Record.{is}
 use Rattle.parameters.specs.Parameters.{kept as keptOf}
 use Rattle.machine_next.specs.Next.{parametersLaid}
+use Rattle.counts.specs.Counts.{sum}
 use Rattle.load_record.specs.declared.Session.{Session}
 use Rattle.load_record.specs.declared.Settings.{Settings as LoadSettings}
 use Rattle.load_checks.specs.Checks.{given, frames, stringRefusal}
@@ -25,13 +26,14 @@ use Rattle.link.specs.BoundedLaws.{always-within}
 use Rattle.link.specs.NumberedLaws as numbered
 use Rattle.link.specs.NumberedLaws.{Transfer}
 use Rattle.link.specs.AloneLaws.{Alone}
+use Rattle.link.specs.CountedLaws.{fresh as fresh-counts}
 use Rattle.link.specs.MachineEnd.{End}
 use Rattle.link.specs.WindowLaws as window
 use Rattle.link.specs.WindowLaws.{window-closed}
 use Rattle.link_load.specs.Model.{loadEnds, freshWorld, after, laidOver, parametersIn, laidFrames, FirstIn}
 use Rattle.link_load.specs.Report.{Report}
-use Rattle.link_load.specs.HostLaws.{F, heard, timed}
-use Rattle.link_load.specs.AloneLaws.{Good, alone-load, bound}
+use Rattle.link_load.specs.HostLaws.{F, heard, counted, timed}
+use Rattle.link_load.specs.AloneLaws.{Good, Known, alone-load, bound}
 use Rattle.link_load.specs.FramesLaws.{Frames, receiver, laid, machineAt}
 use Rattle.link_load.specs.SenderLaws.{Stage, sending, sender, fresh}
 use Rattle.link_load.specs.ImageLaws.{no-parameters, parameters-last, in-last, in-early, loadFrames}
@@ -41,8 +43,8 @@ use Rattle.link_load.specs.MeaningLaws.{Meaning, means}
 -- a report says nothing of the queues
 pub report-alike : (s : LoadSettings) (ms : MachineSettings) (file string old : List ℕ) (w v : World Session End) → Alike w v → Report s ms file string old w → Report s ms file string old v
 report-alike s ms file string old w v a r =
-    let x : World Session End = record { host = w .host; machine = w .machine; toMachine = v .toMachine; toHost = v .toHost; taken = w .taken } in
-    let same : x ≡ v = rw (a .0, a .1, a .2) in
+    let x : World Session End = record { host = w .host; machine = w .machine; toMachine = v .toMachine; toHost = v .toHost; taken = w .taken; heard = w .heard } in
+    let same : x ≡ v = rw (a .0, a .1, a .2, a .3) in
     subst (Report s ms file string old) same (record {
       waiting = r .waiting;
       rejected = r .rejected;
@@ -51,6 +53,8 @@ report-alike s ms file string old w v a r =
       window-kept = r .window-kept;
       counted = r .counted;
       bounded = r .bounded;
+      handed = r .handed;
+      counts = r .counts;
       rejected-at = r .rejected-at;
       given-up-at = r .given-up-at;
       unconfirmed-at = r .unconfirmed-at;
@@ -70,12 +74,12 @@ module _ (s : LoadSettings) (ms : MachineSettings) (file string old : List ℕ) 
   abbrev pub load-transfer : Transfer Session End
   load-transfer = sending fr (s .repeats) old
 
-  -- what every run keeps: the invariant of numbered frames, a record whose numbers are good, and the bytes of the ROM window
+  -- what every run keeps: the invariant of numbered frames, a record whose numbers and counts are good, and the bytes of the ROM window
   abbrev pub Inv : World Session End → Type 0
   Inv = numbered.Inv load-transfer (loadEnds s ms file string)
 
   abbrev pub Counts : World Session End → Type 0
-  Counts = Alone (Good n (s .repeats)) (λ h. h .sent) (loadEnds s ms file string)
+  Counts = Alone (Known n (s .repeats) (fr .some) (F s file string)) (λ h. h .sent) (λ h. sum (h .counts)) (loadEnds s ms file string)
 
   abbrev pub Windowed : World Session End → Type 0
   Windowed = window.Kept ms old
@@ -87,19 +91,19 @@ module _ (s : LoadSettings) (ms : MachineSettings) (file string old : List ℕ) 
   inv =
       let ends = loadEnds s ms file string in
       numbered.closed load-transfer ends (sender fr (s .repeats) old ends (heard s file string) (timed s file string))
-      (receiver fr old refl (ends .hostFrame) (ends .hostTimer) (ends .further) (Stage (fr .many) (s .repeats) (fr .fit)))
+      (receiver fr old refl (ends .hears) (ends .hostFrame) (ends .hostTimer) (ends .further) (Stage (fr .many) (s .repeats) (fr .fit)))
 
   counting : Closed (loadEnds s ms file string) Counts
-  counting = alone-load n (s .repeats) (fr .some) (F s file string) (loadEnds s ms file string) (heard s file string) (timed s file string)
+  counting = alone-load n (s .repeats) (fr .some) (F s file string) (loadEnds s ms file string) (heard s file string) (timed s file string) (counted s file string)
 
   windowed : Closed (loadEnds s ms file string) Windowed
   windowed =
-      let ends = loadEnds s ms file string in window-closed ms old (ends .hostFrame) (ends .hostTimer) (ends .further)
+      let ends = loadEnds s ms file string in window-closed ms old (ends .hears) (ends .hostFrame) (ends .hostTimer) (ends .further)
 
   at-first : Kept (freshWorld ms old)
   unfolding machineAt laid
   at-first =
-      ((0, 0, numbered.begins load-transfer (loadEnds s ms file string) _ _ (fresh fr (s .repeats) old) refl), (fresh fr (s .repeats) old .good, refl), λ a x. refl)
+      ((0, 0, numbered.begins load-transfer (loadEnds s ms file string) _ _ (fresh fr (s .repeats) old) refl), ((fresh fr (s .repeats) old .good, fresh-counts), refl, refl), λ a x. refl)
 
   pub kept : (es : List (Event ⊥)) → Kept (after s ms file string old es)
   kept es = (
@@ -160,7 +164,7 @@ module _ (s : LoadSettings) (ms : MachineSettings) (file string old : List ℕ) 
   pub report : (w : World Session End) → Kept w → Report s ms file string old w
   report w k =
       let i = k .0 in
-      let g : Good n (s .repeats) (w .host) = k .1 .0 in
+      let g : Good n (s .repeats) (w .host) = k .1 .0 .0 in
       let m : Meaning fr old (w .host) (w .machine) =
       subst (Meaning fr old (w .host)) (sym (i .2 .end-is)) (means fr old (s .repeats) (i .0) (i .1) (w .host) (i .2 .stage) (i .2 .lower) (i .2 .upper) (i .2 .few) (i .2 .fitting)) in
       record {
@@ -171,6 +175,8 @@ module _ (s : LoadSettings) (ms : MachineSettings) (file string old : List ℕ) 
         window-kept = k .2;
         counted = omega (arith, k .1 .1);
         bounded = omega (arith, bound n (s .repeats) (w .host) g);
+        handed = k .1 .2;
+        counts = k .1 .0 .1;
         rejected-at = λ e. g .otherwise (λ q. omega arith) .0;
         given-up-at = λ e. g .given-up e .0;
         unconfirmed-at = λ e. g .unconfirmed e .0;

@@ -7,6 +7,7 @@ use native.Mathlib.Omega.{arith}
 use Rattle.message.specs.Write.{layout}
 use Rattle.machine_record.specs.declared.Settings.{Settings as MachineSettings}
 use Rattle.machine_number.specs.Number.{after}
+use Rattle.counts.specs.declared.Counts.{Counts}
 use Rattle.load_record.specs.declared.Session.{Session}
 use Rattle.load_record.specs.Record as load-record
 use Rattle.link.specs.Link.{Frame, Turn, Ends}
@@ -48,7 +49,7 @@ module _ {ms : MachineSettings} (fr : Frames ms) (R : ℕ) (old : List ℕ) wher
   fits-not false error e z = refl
 
   -- a record that waits no more
-  stands : {c k v t : ℕ} (p : ℕ) (x : Session) → Good (fr .many) R x → Now x 0 c k v t → p ≡ c + 1 → (v ≡ 2 → fr .fit c ≡ false) → Stage (fr .many) R (fr .fit) p x
+  stands : {c k v t : ℕ} {m : Counts} (p : ℕ) (x : Session) → Good (fr .many) R x → Now x 0 c k v t m → p ≡ c + 1 → (v ≡ 2 → fr .fit c ≡ false) → Stage (fr .many) R (fr .fit) p x
   stands p x g n e u =
       record {
         good = g;
@@ -59,7 +60,7 @@ module _ {ms : MachineSettings} (fr : Frames ms) (R : ℕ) (old : List ℕ) wher
 
   module _ (p : ℕ) (h : Session) (g : Stage (fr .many) R (fr .fit) p h) where
     -- the same record, perhaps with other numbers beside these
-    same : (x : Session) → Good (fr .many) R x → Now x (h .waiting) (h .position) (h .repeats) (h .verdict) (h .sent) → Stage (fr .many) R (fr .fit) p x
+    same : {m : Counts} (x : Session) → Good (fr .many) R x → Now x (h .waiting) (h .position) (h .repeats) (h .verdict) (h .sent) m → Stage (fr .many) R (fr .fit) p x
     same x k n =
         record {
           good = k;
@@ -94,7 +95,7 @@ module _ {ms : MachineSettings} (fr : Frames ms) (R : ℕ) (old : List ℕ) wher
           let z = this w 0 a in
           rw (z .0) (advances x (stands (suc (h .position + 1)) x (kept .0) n (omega arith) (λ e. absurd (omega arith)))
           (omega (arith, z)) (omega (arith, there w)) (confirmed w a))
-      on-frame t (host.finishes x w a l n) kept =
+      on-frame t (host.finishes x w a b l n) kept =
           let z = this w 0 a in
           rw (z .0) (finishes x (stands (suc (h .position + 1)) x (kept .0) n (omega (arith, there w)) (λ e. absurd (omega arith)))
           (omega (arith, z)) (omega arith) (confirmed w a))

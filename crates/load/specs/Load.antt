@@ -11,6 +11,7 @@ use Rattle.step.specs.Step.{Sending, nothing, sends, Act, Outcome, acts, call, 
 use Rattle.load_record.specs.declared.Settings.{Settings}
 use Rattle.load_record.specs.declared.Session.{Session}
 use Rattle.load_record.specs.declared.Next.{Next}
+use Rattle.load_record.specs.Record.{tallied}
 use Rattle.load_next.specs.Next.{react}
 use Rattle.load_timer.specs.Timer.{onTimer}
 use Rattle.load_checks.specs.Checks.{given, frames, refusal}
@@ -30,7 +31,8 @@ frameMessage s file string i = numbered s string (frames s file) (trailer file .
 -- ---- what is counted, and what is sent
 -- this record with one more frame sent
 abbrev pub raised : Session → Session
-raised h = record { position = h .position; sent = h .sent + 1; repeats = h .repeats; waiting = h .waiting; verdict = h .verdict }
+raised h =
+    record { position = h .position; sent = h .sent + 1; counts = h .counts; repeats = h .repeats; waiting = h .waiting; verdict = h .verdict }
 
 abbrev pub counted : Next → Session
 counted next = pick (next .sends) (raised (next .session)) (next .session)
@@ -44,10 +46,10 @@ abbrev pub does : Settings → List ℕ → List ℕ → Next → Act Session Un
 does s file string next = acts (counted next) tt (sending next (frameMessage s file string (next .session .position)))
 
 -- ---- calls
--- a step on a frame
+-- a step on a frame, which is counted
 abbrev pub loadFrame : Settings → Session → List ℕ → List ℕ → List ℕ → List ℕ → Outcome Session Unit
 loadFrame s h file string frame reply =
-    frameCall (s .version) (refusal s h file string reply) frame h tt reply (λ f. does s file string (react (frames s file) h f))
+    frameCall (s .version) (refusal s h file string reply) frame h tt reply (λ f. does s file string (tallied h (react (frames s file) h f)))
 
 -- a step on a timer
 abbrev pub loadTimer : Settings → Session → List ℕ → List ℕ → List ℕ → Outcome Session Unit

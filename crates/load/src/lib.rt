@@ -126,7 +126,14 @@ pub fn frame(
         return refused(f.refusal, session);
     }
     let next = load_next::react(k.many, session, f);
-    give(settings, file, parameters, k, next, reply)
+    give(
+        settings,
+        file,
+        parameters,
+        k,
+        load_record::tallied(session, next),
+        reply,
+    )
 }
 
 // A step on a timer.

@@ -7,6 +7,7 @@ use lib.Dec.{eqb, leb}
 use Rattle.directory.specs.Directory.{trailer, regions, nowhere, refusal as imageRefusal}
 use Rattle.image.specs.Image.{many, segment, widest}
 use Rattle.version.specs.Version.{known}
+use Rattle.counts.specs.Counts.{below, onlyIgnored}
 use Rattle.message.specs.Write.{entryList}
 use Rattle.step.specs.Step.{unless, first}
 use Rattle.load_record.specs.declared.Settings.{Settings}
@@ -30,14 +31,15 @@ settled s =
     leb 1 (s .«segment_size») && leb (s .«segment_size») widest && leb (s .repeats) 255 && leb (s .«with_parameters») 1
     && known (s .version)
 
--- a waiting record has every number 0
+-- a waiting record has every number 0 but that of ignored frames
 abbrev pub blank : Session → Bool
-blank h = eqb (h .verdict) 0 && eqb (h .position) 0 && eqb (h .repeats) 0 && eqb (h .sent) 0
+blank h = eqb (h .verdict) 0 && eqb (h .position) 0 && eqb (h .repeats) 0 && eqb (h .sent) 0 && onlyIgnored (h .counts)
 
 -- the record is none of those that are bad (PROTOCOL 7, 'Refusals'), but for what needs n
 abbrev pub sound : Settings → Session → Bool
 sound s h =
-    leb (h .verdict) 4 && leb (h .repeats) (s .repeats) && leb (h .waiting) 1 && pick (eqb (h .waiting) 1) (blank h) true
+    leb (h .verdict) 4 && leb (h .repeats) (s .repeats) && leb (h .waiting) 1 && below (h .counts)
+    && pick (eqb (h .waiting) 1) (blank h) true
 
 -- what needs n: c at most n, sent at most n × (R + 1), and verdict 1 just at n
 abbrev pub consistent : ℕ → Settings → Session → Bool

@@ -16,13 +16,14 @@ use Rattle.image.specs.Laws.{many-range}
 use Rattle.buffer.specs.Lay.{laid, refuse}
 use Rattle.message.specs.Message.{parameters}
 use Rattle.version.specs.Version.{known}
+use Rattle.counts.specs.Counts.{below}
 use Rattle.message.specs.Write.{entryList, layout, write}
 use Rattle.step.specs.Step.{unless, first}
 use Rattle.step.specs.Laws.{met, none}
 use Rattle.load_record.specs.declared.Settings.{Settings}
 use Rattle.load_record.specs.declared.Session.{Session}
 use Rattle.load_checks.specs.declared.Ruling.{Ruling}
-use Rattle.load_checks.specs.Checks.{given, framesOf, frames, settled, consistent, longest, stringRefusal, refusal, denied, accepts, ruling}
+use Rattle.load_checks.specs.Checks.{given, framesOf, frames, settled, blank, sound, consistent, longest, stringRefusal, refusal, denied, accepts, ruling}
 
 -- the settings are in range
 pub record Set (s : Settings) : Type 0 where
@@ -114,10 +115,17 @@ string-as-written s string number transfer out g h = rw g (go (entryList string 
     go true = laid-as (leb (length string) longest) refl
     go false = refl
 
--- What an accepted call says: the settings are in range, the reply buffer has room for any frame, the image is whole, the record agrees with
+-- no count of a sound record is at its top
+sound-below : (s : Settings) (h : Session) → sound s h ≡ true → below (h .counts) ≡ true
+sound-below s h e =
+    let marks = leb (h .verdict) 4 && leb (h .repeats) (s .repeats) && leb (h .waiting) 1 in
+    both marks (below (h .counts)) (both (marks && below (h .counts)) (pick (eqb (h .waiting) 1) (blank h) true) e .0) .1
+
+-- What an accepted call says: the settings are in range, no count is at its top, the reply buffer has room for any frame, the image is whole, the record agrees with
 -- n, which has 33 bits, and so is the parameter string.
 pub record Accepted (s : Settings) (h : Session) (file string reply : List ℕ) : Type 0 where
   pub range : Set s
+  pub below-top : below (h .counts) ≡ true
   pub room : 1500 ≤ length reply
   pub whole : cutRefusal file (s .«segment_size») ≡ 0
   pub few : frames s file ≤ addresses + 1
@@ -136,6 +144,7 @@ accepted s h file string reply e =
     let whole = sym (cut-image s file range) ∙ image .0 in
     record {
       range = range;
+      below-top = sound-below s h (met _ 10 (omega arith) (session .0));
       room = leb-true _ _ (met _ 9 (omega arith) (buffer .0));
       whole = whole;
       few = omega (arith, many-range file (s .«segment_size») whole .1, frames-few s (many (s .«segment_size») (regions file)) .1);

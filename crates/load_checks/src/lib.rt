@@ -35,7 +35,7 @@ fn settled(settings: Settings) -> bool
     version::known(settings.version)
 }
 
-// Whether all numbers of a record are 0.
+// Whether all numbers of a record are 0, but for that of ignored frames.
 fn blank(session: Session) -> bool
     ensures { λ r. ⌜ r ≡ blank session ⌝ }
 {
@@ -48,7 +48,10 @@ fn blank(session: Session) -> bool
     if session.repeats != 0 {
         return false;
     }
-    session.sent == 0
+    if session.sent != 0 {
+        return false;
+    }
+    counts::only_ignored(session.counts)
 }
 
 // Whether a record is sound, but for what needs n.
@@ -62,6 +65,9 @@ fn sound(settings: Settings, session: Session) -> bool
         return false;
     }
     if 1 < session.waiting {
+        return false;
+    }
+    if !counts::below(session.counts) {
         return false;
     }
     if session.waiting == 1 {

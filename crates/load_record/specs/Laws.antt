@@ -1,11 +1,11 @@
--- Laws of what the host does next: the count stays, and which frame may go out is known beforehand.
+-- Laws of what the host does next: the count of frames sent stays, and which frame may go out is known beforehand.
 use Prim.Native.Nat.{ℕ, _<_}
 use mathlib.Core.Path.{_≡_, refl}
 use mathlib.Core.Bool.{true, false}
 use native.Mathlib.Omega.{arith}
 use Rattle.load_record.specs.declared.Session.{Session}
 use Rattle.load_record.specs.declared.Next.{Next}
-use Rattle.load_record.specs.Record.{ignores}
+use Rattle.load_record.specs.Record.{ignores, tallied}
 
 -- the count stays, and what goes out is frame i, one of N
 pub record Bound (N i : ℕ) (h : Session) (next : Next) : Type 0 where
@@ -29,3 +29,7 @@ module _ (N : ℕ) (h : Session) where
 
   pub idle : (i : ℕ) → Bound N i h (ignores h)
   idle i = silent i h refl
+
+  -- to count the frame alters none of this
+  pub tallied-bound : (i : ℕ) (next : Next) → Bound N i h next → Bound N i h (tallied h next)
+  tallied-bound i next b = record { counted = b .counted; place = b .place; inside = b .inside }

@@ -1,7 +1,11 @@
 // The record of the host's end of a load, and its named updates (PROTOCOL 5, 'Host end').
 ghost use mathlib.Core.Path.{_≡_};
+ghost use mathlib.Core.Bool.{true, false};
 ghost use Prim.Native.Nat.{_<_, _≤_};
-ghost use Rattle.load_record.specs.Record.{fresh, reached, repeated, ignores, goesOut, ends, more};
+ghost use Rattle.counts.specs.Counts.{below};
+ghost use Rattle.load_record.specs.Record.{fresh, reached, repeated, ignores, goesOut, ends, more, standing, withCounts, tallied};
+use counts::Counts;
+use counts::Standing;
 
 // Its settings: S, the bytes of a segment; R, the repeats allowed per frame; whether a parameter string ends the load (1)
 // or not (0); and the version.
@@ -13,18 +17,20 @@ pub struct Settings {
     pub version: u8,
 }
 
-// Its record: c, the frames answered; the frames sent; the repeats of the frame on its way; whether it still waits for a
-// request (1) or not (0); the verdict: 0 running, 1 finished, 2 rejected, 3 given up, 4 unconfirmed.
+// Its record: c, the frames answered; the frames sent; what the frames that it was handed came to; the repeats of the frame
+// on its way; whether it still waits for a request (1) or not (0); the verdict: 0 running, 1 finished, 2 rejected, 3 given
+// up, 4 unconfirmed.
 #[repr(C)]
 pub struct Session {
     pub position: u64,
     pub sent: u64,
+    pub counts: Counts,
     pub repeats: u32,
     pub waiting: u8,
     pub verdict: u8,
 }
 
-// What it does next: its record but for the count of frames sent, and whether the frame at the record's position goes out.
+// What it does next: its record but for the counts, and whether the frame at the record's position goes out.
 pub struct Next {
     pub session: Session,
     pub sends: bool,
@@ -37,6 +43,7 @@ pub fn start() -> Session
     Session {
         position: 0,
         sent: 0,
+        counts: counts::zero(),
         repeats: 0,
         waiting: 1,
         verdict: 0,
@@ -106,4 +113,27 @@ pub fn more(many: u64, h: Session) -> bool
         return false;
     }
     h.position + 1 < many
+}
+
+// Where it stands, for the counts.
+pub fn standing(h: Session) -> Standing
+    ensures { λ r. ⌜ r ≡ standing h ⌝ }
+{
+    Standing {
+        reached: h.position,
+        waiting: h.waiting,
+        verdict: h.verdict,
+    }
+}
+
+// The frame is counted that brought the record h to what is done next, if there are numbers for it.
+pub fn tallied(h: Session, next: Next) -> Next
+    ensures { λ r. ⌜ (below (h .counts) ≡ true → r ≡ tallied h next) × (below (h .counts) ≡ false → r ≡ withCounts (h .counts) next) ⌝ }
+{
+    let mut session = next.session;
+    session.counts = counts::tally(standing(h), standing(next.session), h.counts);
+    Next {
+        session,
+        sends: next.sends,
+    }
 }

@@ -1,10 +1,15 @@
 -- A whole rehearsal is a run of the link with queues of 16 frames, from fresh ends on.
-use Prim.Native.Nat.{ℕ, _≤_}
+use Prim.Native.Nat.{ℕ, _+_, _≤_, _<_}
 use mathlib.Core.Path.{_≡_, refl, ap, sym, subst, _∙_}
+use mathlib.Core.Bool.{true}
 use mathlib.Core.List.{List, [], _∷_, _++_, append-nil, append-assoc}
 use native.Mathlib.Omega.{arith}
-use lib.ListN.{length, replicate, length-replicate, getD-replicate}
+use lib.ListN.{length, length-append, replicate, length-replicate, getD-replicate}
+use lib.Dec.{ltb}
 use Rattle.octets.specs.Number.{Octets}
+use Rattle.bytes.specs.Bytes.{indexOf}
+use Rattle.octets.specs.TestLaws.{both}
+use Rattle.counts.specs.Counts.{sum, top}
 use Rattle.image.specs.Image.{cutRefusal}
 use Rattle.image.specs.Laws.{ready}
 use Rattle.machine_record.specs.Record as machine
@@ -12,6 +17,7 @@ use Rattle.machine_checks.specs.Checks as machineChecks
 use Rattle.machine_timer.specs.Timer.{onTimer}
 use Rattle.load_record.specs.declared.Session.{Session}
 use Rattle.queue.specs.Queue.{empty}
+use Rattle.script.specs.Script.{only, events}
 use Rattle.job.specs.declared.Setup.{Setup}
 use Rattle.job.specs.Run.{Run, run, freshEnds, endLine}
 use Rattle.rehearse.specs.Rehearse.{event, eventLine, begin, after, lines, places}
@@ -24,6 +30,7 @@ use Rattle.link_load.specs.Model.{loadEnds, freshWorld}
 use Rattle.link_load.specs.Audit.{bounded-load, bounded-never-refused}
 use Rattle.rehearse_link.specs.Ring.{framesFrom, frames, Ring}
 use Rattle.rehearse_link.specs.World.{world, eventAt, eventsOf}
+use Rattle.rehearse_link.specs.LetterLaws.{one}
 use Rattle.rehearse_link.specs.TurnLaws.{no-string}
 use Rattle.rehearse_link.specs.StepLaws.{Room, steps}
 
@@ -53,22 +60,26 @@ module _ (s : Setup) (file old : List ℕ) (ok : cutRefusal file (s .host .«seg
   abbrev reached : List (Event ⊥) → World Session End
   reached es = runWithin 16 ends (freshWorld (s .machine) old) es
 
-  unrefused : (es : List (Event ⊥)) → Unrefused ends (reached es)
-  unrefused es = bounded-never-refused (s .host) (s .machine) file [] old ok o (no-string (s .host)) same few mark fresh 16 es
+  unrefused : (es : List (Event ⊥)) → length es < top → Unrefused ends (reached es)
+  unrefused es short = bounded-never-refused (s .host) (s .machine) file [] old ok o (no-string (s .host)) same few mark fresh 16 es short
 
   -- ---- letters in turn
-  folds : (es : List (Event ⊥)) (r : Run) → Room r → (k : ℕ) → reached es ≡ world k r → (letters : List ℕ)
-      → (n : ℕ) × (reached (es ++ eventsOf s file r letters) ≡ world n (after s file r letters))
-  unfolding eventsOf after
-  folds es r room k e [] = (k, ap reached (append-nil es) ∙ e)
-  folds es r room k e (letter ∷ rest) =
-      let u : Unrefused ends (world k r) = subst (Unrefused ends) e (unrefused es) in
-      let x = steps s file (ready file (s .host .«segment_size») ok .narrow) r room k u letter in
-      let y : reached (es ++ eventAt (r .reply) letter) ≡ world (x .1 .0) (event s file r letter .run) =
+  folds : (es : List (Event ⊥)) (r : Run) → Room r → (k j : ℕ) → reached es ≡ world k j r → (letters : List ℕ) → only events letters ≡ true
+      → length es + length letters < top
+      → (n : ℕ) × (i : ℕ) × (reached (es ++ eventsOf s file r letters) ≡ world n i (after s file r letters))
+  unfolding eventsOf after only
+  folds es r room k j e [] are short = (k, j, ap reached (append-nil es) ∙ e)
+  folds es r room k j e (letter ∷ rest) are short =
+      let letters = both (ltb (indexOf letter events) (length events)) (only events rest) are in
+      let u : Unrefused ends (world k j r) = subst (Unrefused ends) e (unrefused es (omega arith)) in
+      let x = steps s file (ready file (s .host .«segment_size») ok .narrow) r room k j u letter in
+      let y : reached (es ++ eventAt (r .reply) letter) ≡ world (x .1 .0) (x .1 .1) (event s file r letter .run) =
       run-joined ends (freshWorld (s .machine) old) es (eventAt (r .reply) letter)
-      ∙ ap (λ (w : World Session End). runWithin 16 ends w (eventAt (r .reply) letter)) e ∙ x .1 .1 in
-      let z = folds (es ++ eventAt (r .reply) letter) (event s file r letter .run) (x .0) (x .1 .0) y rest in
-      (z .0, ap reached (sym (append-assoc es (eventAt (r .reply) letter) (eventsOf s file (event s file r letter .run) rest))) ∙ z .1)
+      ∙ ap (λ (w : World Session End). runWithin 16 ends w (eventAt (r .reply) letter)) e ∙ x .1 .2 in
+      let count : length (es ++ eventAt (r .reply) letter) + length rest < top =
+      rw (length-append es (eventAt (r .reply) letter)) (omega (arith, one (r .reply) letter (letters .0))) in
+      let z = folds (es ++ eventAt (r .reply) letter) (event s file r letter .run) (x .0) (x .1 .0) (x .1 .1) y rest (letters .1) count in
+      (z .0, z .1, ap reached (sym (append-assoc es (eventAt (r .reply) letter) (eventsOf s file (event s file r letter .run) rest))) ∙ z .2)
 
   -- ---- the first step: the machine's first frame, as its timer gives it
   module _ (hosts machines : List (List ℕ)) (reply : List ℕ) (g : Ring empty hosts) (i : Ring empty machines) (l : length reply ≡ 1500) where
@@ -78,40 +89,43 @@ module _ (s : Setup) (file old : List ℕ) (ok : cutRefusal file (s .host .«seg
     no-frame : (f : Frame) (q : List Frame) → [] ≡ f ∷ q → ⊥
     no-frame f q e = let z : _≡_ {A = ℕ} 0 1 = cc in omega arith
 
-    blank-unrefused : Unrefused ends (world 0 blank)
+    blank-unrefused : Unrefused ends (world 0 0 blank)
     unfolding framesFrom runWithin
     blank-unrefused =
         record {
           hostFrame = λ f q b e _ _. no-frame f q e;
-          hostTimer = unrefused [] .hostTimer;
+          hostTimer = unrefused [] (omega arith) .hostTimer;
           machineFrame = λ f q b e _ _. no-frame f q e;
-          machineTimer = unrefused [] .machineTimer;
+          machineTimer = unrefused [] (omega arith) .machineTimer;
         }
 
-    begins : Room (begin s blank .run) × ((k : ℕ) × (freshWorld (s .machine) old ≡ world k (begin s blank .run)))
+    begins : Room (begin s blank .run) × ((k : ℕ) × (j : ℕ) × (freshWorld (s .machine) old ≡ world k j (begin s blank .run)))
     unfolding framesFrom runWithin
     begins =
         let room : Room blank = record { hosts = g; machines = i; reply = l; running = omega arith } in
-        let x = steps s file (ready file (s .host .«segment_size») ok .narrow) blank room 0 blank-unrefused 110 in
+        let x = steps s file (ready file (s .host .«segment_size») ok .narrow) blank room 0 0 blank-unrefused 110 in
         let a = onTimer (s .machine) machine.requesting old in
         let accepted : machineChecks.refusal (s .machine) machine.requesting (length old) (length reply) ≡ 0 = rw l fresh in
         let t = told-as machineEnd (machineChecks.refusal (s .machine) machine.requesting (length old) (length reply)) machine.requesting old reply a accepted in
-        let y : within 16 (machineTurn (world 0 blank) [] (ends .machineTimer (machineEnd machine.requesting old) reply)) ≡ freshWorld (s .machine) old =
-        ap (λ (v : Turn End). within 16 (machineTurn (world 0 blank) [] v)) t in
-        (x .0, (x .1 .0, sym y ∙ x .1 .1))
+        let y : within 16 (machineTurn (world 0 0 blank) [] (ends .machineTimer (machineEnd machine.requesting old) reply)) ≡ freshWorld (s .machine) old =
+        ap (λ (v : Turn End). within 16 (machineTurn (world 0 0 blank) [] v)) t in
+        (x .0, (x .1 .0, x .1 .1, sym y ∙ x .1 .2))
 
-    -- the whole: what the link has taken is what the host counts
-    pub whole : (letters : List ℕ)
+    -- the whole: what the link has taken and handed over is what the host counts
+    pub whole : (letters : List ℕ) → only events letters ≡ true → length letters < top
         → reached (eventsOf s file (begin s blank .run) letters)
-        ≡ world (after s file (begin s blank .run) letters .ends .session .sent) (after s file (begin s blank .run) letters)
+        ≡ world (after s file (begin s blank .run) letters .ends .session .sent) (sum (after s file (begin s blank .run) letters .ends .session .counts)) (after s file (begin s blank .run) letters)
     unfolding runWithin
-    whole letters =
+    whole letters are short =
         let r = begin s blank .run in
-        let x = folds [] r (begins .0) (begins .1 .0) (begins .1 .1) letters in
-        let c = bounded-load (s .host) (s .machine) file [] old ok o (no-string (s .host)) 16 (eventsOf s file r letters) .counted in
-        let same : after s file r letters .ends .session .sent ≡ x .0 =
-        ap (λ (w : World Session End). w .host .sent) (sym (x .1)) ∙ c ∙ ap (λ (w : World Session End). w .taken) (x .1) in
-        x .1 ∙ ap (λ (n : ℕ). world n (after s file r letters)) (sym same)
+        let last = after s file r letters in
+        let x = folds [] r (begins .0) (begins .1 .0) (begins .1 .1) (begins .1 .2) letters are (omega arith) in
+        let c = bounded-load (s .host) (s .machine) file [] old ok o (no-string (s .host)) 16 (eventsOf s file r letters) in
+        let taken : last .ends .session .sent ≡ x .0 =
+        ap (λ (w : World Session End). w .host .sent) (sym (x .2)) ∙ c .counted ∙ ap (λ (w : World Session End). w .taken) (x .2) in
+        let heard : sum (last .ends .session .counts) ≡ x .1 =
+        ap (λ (w : World Session End). sum (w .host .counts)) (sym (x .2)) ∙ c .handed ∙ ap (λ (w : World Session End). w .heard) (x .2) in
+        x .2 ∙ ap (λ (n : ℕ). world n (x .1) last) (sym taken) ∙ ap (λ (j : ℕ). world (last .ends .session .sent) j last) (sym heard)
 
 -- ---- the last line is that of the run after all letters
 pub last : (s : Setup) (file : List ℕ) (r : Run) (letters : List ℕ)

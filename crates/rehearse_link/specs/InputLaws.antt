@@ -1,10 +1,10 @@
--- An accepted input has accepted settings, an accepted image of bytes, an accepted length of memory, and letters that are events.
+-- An accepted input has accepted settings, an accepted image of bytes, an accepted length of memory, and at most 8,192 letters that are events.
 use Prim.Native.Nat.{ℕ, zero, suc, _+_, _*_, _≤_, _<_}
 use mathlib.Core.Path.{_≡_, refl}
 use mathlib.Core.Bool.{true, false, _&&_}
 use mathlib.Core.List.{List, [], _∷_}
 use native.Mathlib.Omega.{arith}
-use lib.ListN.{length, take, drop}
+use lib.ListN.{length, take, drop, length-take, length-drop}
 use lib.Seq.{take-at}
 use lib.Dec.{eqb, ltb}
 use borrow.Author.Tests.{eqb-true, eqb-false, ltb-true, le-leb}
@@ -67,6 +67,7 @@ pub record Ready (input : List ℕ) (r : Reading) : Type 0 where
   pub no-block : laysBlock (r .job .setup .host) (r .job .setup .machine) ≡ false
   pub settings : refusal (r .job .setup .machine) requesting (r .job .script .memory) 1500 ≡ 0
   pub letters : only events (lettersOf input (r .job)) ≡ true
+  pub short : length (lettersOf input (r .job)) ≤ 8192
 
 image-whole : (file : List ℕ) (S : ℕ) → imageChecked file S .refusal ≡ 0 → cutRefusal file S ≡ 0
 image-whole file S =
@@ -94,4 +95,5 @@ ready input space =
           no-block = refl;
           settings = accepts t (t .memory) (a .memory-most);
           letters = a .events-are;
+          short = simp (length-take, length-drop) (omega (arith, a .short));
         }

@@ -22,7 +22,7 @@ other letter k e = ne-eqb k letter (λ z. eqb-false letter k e (sym z))
 abbrev One : List (Event ⊥) → Type 0
 One es = length es ≡ 1
 
-one : (reply : List ℕ) (letter : ℕ) → ltb (indexOf letter events) (length events) ≡ true → length (eventAt reply letter) ≡ 1
+pub one : (reply : List ℕ) (letter : ℕ) → ltb (indexOf letter events) (length events) ≡ true → length (eventAt reply letter) ≡ 1
 unfolding indexOf indexAfter
 one reply letter e =
     by-cases One (eqb letter 104) (λ _. refl) (λ a.

@@ -3,6 +3,7 @@ use Prim.Native.Nat.{ℕ}
 use mathlib.Core.Path.{_≡_}
 use mathlib.Core.List.{List, []}
 use lib.ListN.{replicate}
+use Rattle.counts.specs.Counts.{sum}
 use Rattle.load_record.specs.declared.Session.{Session}
 use Rattle.job.specs.declared.Setup.{Setup}
 use Rattle.job.specs.Job.{Reading, reading}
@@ -38,8 +39,8 @@ module _ (input : List ℕ) where
   abbrev pub ended : Run
   ended = after settings image begun (lettersOf input (asked .job))
 
-  -- ---- the same on the link: its ends, its fresh world, its events, and the world that the rehearsal ends in, whose count of host
-  -- frames is the host's own
+  -- ---- the same on the link: its ends, its fresh world, its events, and the world that the rehearsal ends in, whose counts of host
+  -- frames and of frames handed to the host are the host's own
   abbrev pub ends : Ends Session End ⊥
   ends = loadEnds (settings .host) (settings .machine) image []
 
@@ -50,4 +51,4 @@ module _ (input : List ℕ) where
   events = eventsOf settings image begun (lettersOf input (asked .job))
 
   abbrev pub worldAtEnd : World Session End
-  worldAtEnd = world (ended .ends .session .sent) ended
+  worldAtEnd = world (ended .ends .session .sent) (sum (ended .ends .session .counts)) ended

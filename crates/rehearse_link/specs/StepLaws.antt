@@ -17,6 +17,7 @@ use Rattle.machine_next.specs.Next as machine-next
 use Rattle.machine_timer.specs.Timer.{onTimer, machineTimer}
 use Rattle.machine.specs.Machine.{machineFrame}
 use Rattle.load_record.specs.declared.Session.{Session}
+use Rattle.load_record.specs.Record.{tallied}
 use Rattle.load_next.specs.Next as load-next
 use Rattle.load_timer.specs.Timer as load-timer
 use Rattle.load_checks.specs.Checks as load-checks
@@ -33,7 +34,7 @@ use Rattle.host_turns.specs.Turns.{hostHanded, hostTimed}
 use Rattle.machine_turns.specs.Turns.{machineHanded, machineTimed}
 use Rattle.rehearse.specs.Rehearse.{still, hostLeaves, machineLeaves, event}
 use Rattle.link.specs.Link as link
-use Rattle.link.specs.Link.{Frame, acts, turned, World, Event, own, Own, handToMachine, keepToMachine, dropToMachine, handToHost, keepToHost, dropToHost, machineTurn, hostTurn, ownStep, queued}
+use Rattle.link.specs.Link.{Frame, acts, turned, World, Event, own, Own, handToMachine, keepToMachine, dropToMachine, handToHost, keepToHost, dropToHost, machineTurn, hostTurn, counts, ownStep, queued}
 use Rattle.link.specs.LinkLaws.{handedToMachine, keptToMachine, droppedToMachine, handedToHost, keptToHost, droppedToHost}
 use Rattle.link.specs.MachineEnd.{End, machineEnd}
 use Rattle.link.specs.Bounded.{within, runWithin}
@@ -51,8 +52,9 @@ pub record Room (r : Run) : Type 0 where
   pub reply : length (r .reply) ≡ 1500
   pub running : 2 ≤ r .ends .machine .state
 
-same-world : {h h′ : Session} {e e′ : End} {p p′ q q′ : List Frame} {n : ℕ} → h ≡ h′ → e ≡ e′ → p ≡ p′ → q ≡ q′
-    → _≡_ {A = World Session End} (record { host = h; machine = e; toMachine = p; toHost = q; taken = n }) (record { host = h′; machine = e′; toMachine = p′; toHost = q′; taken = n })
+same-world : {h h′ : Session} {e e′ : End} {p p′ q q′ : List Frame} {n j : ℕ} → h ≡ h′ → e ≡ e′ → p ≡ p′ → q ≡ q′
+    → _≡_ {A = World Session End} (record { host = h; machine = e; toMachine = p; toHost = q; taken = n; heard = j })
+    (record { host = h′; machine = e′; toMachine = p′; toHost = q′; taken = n; heard = j })
 same-world a b c d = rw (a, b, c, d)
 
 -- what a choice of steps and the same choice of events have
@@ -69,13 +71,13 @@ by-number (suc k) f g = g (omega arith)
 left-none : (q : Queue) → q .many ≡ 0 → leave q .many ≡ 0
 left-none q e = rw (eq-eqb (q .many) 0 e) e
 
-module _ (s : Setup) (file : List ℕ) (narrow : s .host .«segment_size» ≤ widest) (r : Run) (room : Room r) (n : ℕ)
-    (u : Unrefused (loadEnds (s .host) (s .machine) file []) (world n r)) where
+module _ (s : Setup) (file : List ℕ) (narrow : s .host .«segment_size» ≤ widest) (r : Run) (room : Room r) (n j : ℕ)
+    (u : Unrefused (loadEnds (s .host) (s .machine) file []) (world n j r)) where
   abbrev ends : link.Ends Session End ⊥
   ends = loadEnds (s .host) (s .machine) file []
 
   abbrev w : World Session End
-  w = world n r
+  w = world n j r
 
   abbrev b : List ℕ
   b = r .reply
@@ -104,7 +106,7 @@ module _ (s : Setup) (file : List ℕ) (narrow : s .host .«segment_size» ≤ w
 
   -- what a step and its events have
   P : Step → List (Event ⊥) → Type 0
-  P t es = Room (t .run) × ((k : ℕ) × (runWithin 16 ends (world n r) es ≡ world k (t .run)))
+  P t es = Room (t .run) × ((k : ℕ) × (i : ℕ) × (runWithin 16 ends (world n j r) es ≡ world k i (t .run)))
 
   -- ---- a turn of an end, with the queue that it leaves of the frames to it
   abbrev machineStep : Outcome Machine (List ℕ) → Queue → Step
@@ -143,14 +145,15 @@ module _ (s : Setup) (file : List ℕ) (narrow : s .host .«segment_size» ≤ w
         },
         (
           n,
+          j,
           ap (within 16) (same ∙ ap (machineTurn w (frames q (r .hostPlaces))) turn) ∙ same-world refl end (all-within q (r .hostPlaces) g) joins,
         ),
       )
 
-  host-acts : (o : Outcome Session Unit) (a : Act Session Unit) → o ≡ gives a b → Short (a .sending) → (q : Queue) → Ring q (r .machinePlaces) → (e : Own)
-      → ownStep ends w e ≡ hostTurn w (frames q (r .machinePlaces)) (turned hostEnd o) → P (hostStep o q) (own e ∷ [])
+  host-acts : (o : Outcome Session Unit) (a : Act Session Unit) → o ≡ gives a b → Short (a .sending) → (q : Queue) → Ring q (r .machinePlaces) → (e : Own) (i : ℕ)
+      → ownStep ends w e ≡ hostTurn w i (frames q (r .machinePlaces)) (turned hostEnd o) → P (hostStep o q) (own e ∷ [])
   unfolding P runWithin
-  host-acts o a given-is short q g e same =
+  host-acts o a given-is short q g e i same =
       let t : Tells o (a .end) (a .lent) (queued (a .sending)) =
       subst (λ (x : Outcome Session Unit). Tells x (a .end) (a .lent) (queued (a .sending))) (sym given-is) (tells a b (room .reply) short) in
       let turn : turned hostEnd o ≡ acts (a .end) (queued (a .sending)) = ap (turned hostEnd) given-is ∙ acted hostEnd a b in
@@ -164,7 +167,8 @@ module _ (s : Setup) (file : List ℕ) (narrow : s .host .«segment_size» ≤ w
         },
         (
           n + length (queued (a .sending)),
-          ap (within 16) (same ∙ ap (hostTurn w (frames q (r .machinePlaces))) turn) ∙ same-world (sym (t .end)) refl joins (all-within q (r .machinePlaces) g),
+          j + i,
+          ap (within 16) (same ∙ ap (hostTurn w i (frames q (r .machinePlaces))) turn) ∙ same-world (sym (t .end)) refl joins (all-within q (r .machinePlaces) g),
         ),
       )
 
@@ -179,7 +183,7 @@ module _ (s : Setup) (file : List ℕ) (narrow : s .host .«segment_size» ≤ w
   host-timed =
       let next = load-timer.onTimer (load-checks.frames (s .host) file) (s .host .repeats) h in
       let a = load.does (s .host) file [] next in
-      host-acts (hostTimed (s .host) file r) a (given hostEnd hostRefusal h tt b a (u .hostTimer b room-left)) (host-short (s .host) file next narrow) from-machine (room .machines) (link.hostTimer b) refl
+      host-acts (hostTimed (s .host) file r) a (given hostEnd hostRefusal h tt b a (u .hostTimer b room-left)) (host-short (s .host) file next narrow) from-machine (room .machines) (link.hostTimer b) 0 refl
 
   -- ---- the first frame of a queue, handed over: the end acts on it, if there is one
   abbrev first-host : Frame
@@ -214,7 +218,7 @@ module _ (s : Setup) (file : List ℕ) (narrow : s .host .«segment_size» ≤ w
           (with-one z ∙ ap (λ (x : Outcome Machine (List ℕ)). machineTurn w (frames q (r .hostPlaces)) (turned machineEnd x)) (sym handed))
 
   to-host : (q : Queue) → Ring q (r .machinePlaces) → (from-machine .many ≡ 0 → q .many ≡ 0) → (e : Own) → (w .toHost ≡ [] → ownStep ends w e ≡ w)
-      → (0 < from-machine .many → ownStep ends w e ≡ hostTurn w (frames q (r .machinePlaces)) (ends .hostFrame (w .host) first-machine b))
+      → (0 < from-machine .many → ownStep ends w e ≡ hostTurn w (counts ends (w .host) first-machine) (frames q (r .machinePlaces)) (ends .hostFrame (w .host) first-machine b))
       → P (hostStep (hostHanded (s .host) file r) q) (own e ∷ [])
   to-host q g left e without with-one = by-number (from-machine .many) none some
     where
@@ -223,20 +227,21 @@ module _ (s : Setup) (file : List ℕ) (narrow : s .host .«segment_size» ≤ w
           let empty = empty-frames from-machine (r .machinePlaces) (room .machines) z in
           let o : hostHanded (s .host) file r ≡ gives (ignores h tt) b = rw (eq-eqb (from-machine .many) 0 z) in
           let count : n ≡ n + 0 = omega arith in
-          let same : w ≡ hostTurn w (frames q (r .machinePlaces)) (acts h []) = rw (append-nil, empty, empty-frames q (r .machinePlaces) g (left z), ← count) in
-          host-acts (hostHanded (s .host) file r) (ignores h tt) o tt q g e
-          (without empty ∙ same ∙ ap (λ (x : Outcome Session Unit). hostTurn w (frames q (r .machinePlaces)) (turned hostEnd x)) (sym o))
+          let heard : j ≡ j + 0 = omega arith in
+          let same : w ≡ hostTurn w 0 (frames q (r .machinePlaces)) (acts h []) = rw (append-nil, empty, empty-frames q (r .machinePlaces) g (left z), ← count, ← heard) in
+          host-acts (hostHanded (s .host) file r) (ignores h tt) o tt q g e 0
+          (without empty ∙ same ∙ ap (λ (x : Outcome Session Unit). hostTurn w 0 (frames q (r .machinePlaces)) (turned hostEnd x)) (sym o))
 
       some : 0 < from-machine .many → P (hostStep (hostHanded (s .host) file r) q) (own e ∷ [])
       some z =
           let f = first-machine in
-          let react : Fields → Act Session Unit = λ x. load.does (s .host) file [] (load-next.react (load-checks.frames (s .host) file) h x) in
+          let react : Fields → Act Session Unit = λ x. load.does (s .host) file [] (tallied h (load-next.react (load-checks.frames (s .host) file) h x)) in
           let accepted = u .hostFrame f (frames (leave from-machine) (r .machinePlaces)) b (leaves from-machine (r .machinePlaces) z) room-left in
           let bytes : length f ≡ 0 → ⊥ = λ k. accepted (no-bytes hostEnd (s .host .version) hostRefusal f h tt b react k) in
           let handed : hostHanded (s .host) file r ≡ loadFrame (s .host) h file [] f b = rw (ne-eqb (length f) 0 bytes) in
           host-acts (hostHanded (s .host) file r) (react (fields (s .host .version) f)) (handed ∙ given hostEnd (first (hostRefusal ∷ fields (s .host .version) f .refusal ∷ [])) h tt b (react (fields (s .host .version) f)) accepted)
-          (host-short (s .host) file (load-next.react (load-checks.frames (s .host) file) h (fields (s .host .version) f)) narrow) q g e
-          (with-one z ∙ ap (λ (x : Outcome Session Unit). hostTurn w (frames q (r .machinePlaces)) (turned hostEnd x)) (sym handed))
+          (host-short (s .host) file (tallied h (load-next.react (load-checks.frames (s .host) file) h (fields (s .host .version) f))) narrow) q g e
+          (counts ends (w .host) f) (with-one z ∙ ap (λ (x : Outcome Session Unit). hostTurn w (counts ends (w .host) f) (frames q (r .machinePlaces)) (turned hostEnd x)) (sym handed))
 
   -- ---- it leaves, or is kept
   hosts-left : Ring (leave from-host) (r .hostPlaces)
@@ -263,7 +268,7 @@ module _ (s : Setup) (file : List ℕ) (narrow : s .host .«segment_size» ≤ w
   keeps-to-host : P (hostMoves r (hostHanded (s .host) file r)) (own (keepToHost b) ∷ [])
   keeps-to-host =
       to-host from-machine (room .machines) (λ z. z) (keepToHost b) (ap (keptToHost ends w b))
-      (λ z. let e = leaves from-machine (r .machinePlaces) z in ap (keptToHost ends w b) e ∙ ap (λ (l : List Frame). hostTurn w l (ends .hostFrame (w .host) first-machine b)) (sym e))
+      (λ z. let e = leaves from-machine (r .machinePlaces) z in ap (keptToHost ends w b) e ∙ ap (λ (l : List Frame). hostTurn w (counts ends (w .host) first-machine) l (ends .hostFrame (w .host) first-machine b)) (sym e))
 
   -- ---- a frame is dropped
   drops-to-machine : P (hostLeaves (still r)) (own dropToMachine ∷ [])
@@ -275,7 +280,7 @@ module _ (s : Setup) (file : List ℕ) (narrow : s .host .«segment_size» ≤ w
       ap (droppedToMachine ends w) empty ∙ ap (link.withToMachine w) (empty ∙ sym (empty-frames (leave from-host) (r .hostPlaces) hosts-left (left-none from-host z))))
       (λ z. ap (droppedToMachine ends w) (leaves from-host (r .hostPlaces) z)) in (
         record { hosts = hosts-left; machines = room .machines; reply = room .reply; running = room .running },
-        (n, ap (within 16) dropped ∙ same-world refl refl (all-within (leave from-host) (r .hostPlaces) hosts-left) (all-within from-machine (r .machinePlaces) (room .machines))),
+        (n, j, ap (within 16) dropped ∙ same-world refl refl (all-within (leave from-host) (r .hostPlaces) hosts-left) (all-within from-machine (r .machinePlaces) (room .machines))),
       )
 
   drops-to-host : P (machineLeaves (still r)) (own dropToHost ∷ [])
@@ -287,16 +292,17 @@ module _ (s : Setup) (file : List ℕ) (narrow : s .host .«segment_size» ≤ w
       ap (droppedToHost ends w) empty ∙ ap (link.withToHost w) (empty ∙ sym (empty-frames (leave from-machine) (r .machinePlaces) machines-left (left-none from-machine z))))
       (λ z. ap (droppedToHost ends w) (leaves from-machine (r .machinePlaces) z)) in (
         record { hosts = room .hosts; machines = machines-left; reply = room .reply; running = room .running },
-        (n, ap (within 16) dropped ∙ same-world refl refl (all-within from-host (r .hostPlaces) (room .hosts)) (all-within (leave from-machine) (r .machinePlaces) machines-left)),
+        (n, j, ap (within 16) dropped ∙ same-world refl refl (all-within from-host (r .hostPlaces) (room .hosts)) (all-within (leave from-machine) (r .machinePlaces) machines-left)),
       )
 
   -- a letter that is none
   stays : P (still r) []
   unfolding P runWithin
-  stays = (room, (n, refl))
+  stays = (room, (n, j, refl))
 
   -- THE STEP: each letter is its event
-  pub steps : (letter : ℕ) → Room (event s file r letter .run) × ((k : ℕ) × (runWithin 16 ends (world n r) (eventAt (r .reply) letter) ≡ world k (event s file r letter .run)))
+  pub steps : (letter : ℕ) → Room (event s file r letter .run)
+      × ((k : ℕ) × (i : ℕ) × (runWithin 16 ends (world n j r) (eventAt (r .reply) letter) ≡ world k i (event s file r letter .run)))
   unfolding P runWithin
   steps letter =
       pair P (eqb letter 104) hands-to-machine

@@ -1,7 +1,7 @@
 -- Every rehearsal is a run of the link (PROTOCOL 6, 'Link'). For every accepted input:
 --     linked      its letters are events of the link with queues of 16 frames, and it ends in the world that they lead to
 --     one-each    each letter is one event
---     on-link     so there is a list of the link's own events after which both ends and the count of host frames are the same
+--     on-link     so there is a list of the link's own events after which both ends and what is counted are the same
 --     last-line   the transcript's last line speaks of that world: verdict, host frames, transfer address and memory
 --     reported    the host's report is true of the machine's memory
 --     loaded      verdict 1: the machine holds the program, and no other byte of memory changed
@@ -10,6 +10,7 @@ use Prim.Native.Nat.{ℕ}
 use mathlib.Core.Path.{_≡_, ap, sym, subst, _∙_}
 use mathlib.Core.Bool.{false}
 use mathlib.Core.List.{List, [], _++_, append-assoc}
+use native.Mathlib.Omega.{arith}
 use lib.ListN.{length, replicate, length-replicate}
 use borrow.Author.Tests.{eq-eqb}
 use Rattle.machine_record.specs.Record as machine
@@ -39,7 +40,7 @@ module _ (input : List ℕ) (a : Accepted input) where
       let fit : machineChecks.refusal (settings input .machine) machine.requesting (length (zeros input)) 1500 ≡ 0 =
       ap (λ (n : ℕ). machineChecks.refusal (settings input .machine) machine.requesting n 1500) size ∙ accepted .settings in
       whole (settings input) (image input) (zeros input) (accepted .image) (accepted .octets) (accepted .versions) (accepted .few) (accepted .mark) fit places places (replicate 1500 0) empty-ring empty-ring
-      (length-replicate {A = ℕ} 1500 0) (lettersOf input (asked input .job))
+      (length-replicate {A = ℕ} 1500 0) (lettersOf input (asked input .job)) (accepted .letters) (omega (arith, accepted .short))
 
   pub one-each : length (events input) ≡ length (lettersOf input (asked input .job))
   one-each = letter.one-each (settings input) (image input) (begun input) (lettersOf input (asked input .job)) (accepted .letters)

@@ -11,15 +11,17 @@ use Rattle.link.specs.Link.{World, Event, own, handToMachine, keepToMachine, dr
 use Rattle.link.specs.MachineEnd.{End, machineEnd}
 use Rattle.rehearse_link.specs.Ring.{frames}
 
--- both ends as they are, each queue as the list of the frames that wait, and how many host frames the link has taken
-abbrev pub world : ℕ → Run → World Session End
-world taken r =
+-- both ends as they are, each queue as the list of the frames that wait, how many host frames the link has taken, and how many frames that
+-- are counted it has handed to the host
+abbrev pub world : ℕ → ℕ → Run → World Session End
+world taken heard r =
     record {
       host = r .ends .session;
       machine = machineEnd (r .ends .machine) (r .memory);
       toMachine = frames (r .ends .«from_host») (r .hostPlaces);
       toHost = frames (r .ends .«from_machine») (r .machinePlaces);
       taken = taken;
+      heard = heard;
     }
 
 -- a letter's event, its call lent this reply buffer; another letter is none

@@ -1,13 +1,14 @@
 //! Compares the steps of the host's dump.
 
-use super::{Case, End, Event, first, frames, room_refusal};
+use super::counts::{self, ADVANCES, Counting, Host, IGNORED, STARTS, TOP};
+use super::{Case, End, Event, frames};
 use crate::Compare;
 use crate::make::{self, NO_VERSIONS, V3_0, VERSIONS};
 use crate::tally::Hex;
 use mop_plain::dump::{self, Progress, Session};
 use mop_plain::step::Sent;
 use mop_plain::version::Version;
-use mop_proved::{DumpSettings, Step, Written};
+use mop_proved::{Counts, DumpSettings, Step, Written};
 
 pub const ADDRESS_END: u64 = 1 << 32;
 
@@ -29,7 +30,7 @@ impl End for Dump {
         reply: &mut [u8],
     ) -> Result<(Self::Record, Sent), u8> {
         if matches!(event, Event::Start) {
-            return Ok((numbers(Session::Waiting), None));
+            return Ok((numbers(Session::FRESH), None));
         }
         let settings = dump::Settings {
             length: self.settings.length,
@@ -45,6 +46,7 @@ impl End for Dump {
             record.replies,
             record.repeats,
             record.sent,
+            counts::plain(record.counts),
         )?;
         let sent = match event {
             Event::Frame(Hex(bytes)) => dump::frame(settings, &mut session, bytes, buffer, reply)?,
@@ -97,31 +99,63 @@ impl End for Dump {
         record.verdict
     }
 
+    fn host(record: &Self::Record) -> Option<Host> {
+        Some(Host {
+            waits: record.waiting == 1,
+            verdict: record.verdict,
+            progress: record.filled,
+            taken: record.replies,
+            counts: counts::four(record.counts),
+        })
+    }
+
     fn version(&self) -> u8 {
         self.settings.version
     }
 }
 
+impl Counting for Dump {
+    fn with_counts(record: mop_proved::Dump, counts: Counts) -> mop_proved::Dump {
+        mop_proved::Dump { counts, ..record }
+    }
+}
+
 fn numbers(session: Session) -> mop_proved::Dump {
     match session {
-        Session::Waiting => mop_proved::Dump {
-            waiting: 1,
-            ..Default::default()
-        },
+        Session::Waiting { ignored } => waiting(ignored),
         Session::Begun(Progress {
             verdict,
             filled,
             replies,
             repeats,
             sent,
+            counts,
         }) => mop_proved::Dump {
-            filled,
-            replies,
-            sent,
-            repeats,
-            waiting: 0,
-            verdict: verdict as u8,
+            counts: counts::from_plain(counts),
+            ..with(verdict as u8, filled, replies, repeats, sent)
         },
+    }
+}
+
+/// Waiting, so many frames ignored.
+pub fn waiting(ignored: u64) -> mop_proved::Dump {
+    mop_proved::Dump {
+        counts: counts::only_ignored(ignored),
+        waiting: 1,
+        ..Default::default()
+    }
+}
+
+/// With this verdict or none, and no frame counted.
+pub fn with(verdict: u8, filled: u64, replies: u64, repeats: u32, sent: u64) -> mop_proved::Dump {
+    mop_proved::Dump {
+        filled,
+        replies,
+        sent,
+        counts: Counts::default(),
+        repeats,
+        waiting: 0,
+        verdict,
     }
 }
 
@@ -139,15 +173,7 @@ impl Compare {
     /// What the protocol says outright of these five bytes.
     fn dump_set_cases(&mut self, version: u8) {
         let end = five_bytes(version);
-        let waiting = numbers(Session::Waiting);
-        let with = |verdict, filled, replies, repeats, sent| mop_proved::Dump {
-            filled,
-            replies,
-            sent,
-            repeats,
-            waiting: 0,
-            verdict,
-        };
+        let waiting = waiting(0);
         let begun = with(0, 0, 0, 1, 2);
         let more = with(0, 3, 1, 1, 4);
         let given_up = with(3, 0, 0, 1, 3);
@@ -160,23 +186,24 @@ impl Compare {
         let old = [9; 5];
         #[rustfmt::skip]
         let cases = [
-            (waiting, offer, with(0, 0, 0, 0, 1), start, old),
-            (waiting, frame(&[14, 7, 0, 0, 0, 1]), waiting, None, old),
-            (waiting, timer, waiting, None, old),
-            (begun, offer, begun, None, old),
-            (begun, frame(&[14, 7, 0, 0, 0, 1, 2, 3]), with(0, 3, 1, 0, 3), rest, [1, 2, 3, 9, 9]),
-            (more, frame(&[14, 10, 0, 0, 0, 4, 5]), with(1, 5, 2, 0, 5), end_mark, [9, 9, 9, 4, 5]),
+            (waiting, offer, with(0, 0, 0, 0, 1), start, old, Some(STARTS)),
+            (waiting, frame(&[14, 7, 0, 0, 0, 1]), waiting, None, old, Some(IGNORED)),
+            (waiting, timer, waiting, None, old, None),
+            (begun, offer, begun, None, old, Some(IGNORED)),
+            (begun, frame(&[14, 7, 0, 0, 0, 1, 2, 3]), with(0, 3, 1, 0, 3), rest, [1, 2, 3, 9, 9], Some(ADVANCES)),
+            (more, frame(&[14, 10, 0, 0, 0, 4, 5]), with(1, 5, 2, 0, 5), end_mark, [9, 9, 9, 4, 5], Some(ADVANCES)),
             // More than was asked for, none, and from elsewhere.
-            (more, frame(&[14, 10, 0, 0, 0, 4, 5, 6]), more, None, old),
-            (more, frame(&[14, 10, 0, 0, 0]), more, None, old),
-            (more, frame(&[14, 7, 0, 0, 0, 1, 2]), more, None, old),
-            (with(0, 0, 0, 0, 1), timer, begun, start, old),
-            (begun, timer, given_up, end_mark, old),
-            (more, timer, with(3, 3, 1, 1, 5), end_mark, old),
-            (given_up, frame(&[14, 7, 0, 0, 0, 1]), given_up, None, old),
+            (more, frame(&[14, 10, 0, 0, 0, 4, 5, 6]), more, None, old, Some(IGNORED)),
+            (more, frame(&[14, 10, 0, 0, 0]), more, None, old, Some(IGNORED)),
+            (more, frame(&[14, 7, 0, 0, 0, 1, 2]), more, None, old, Some(IGNORED)),
+            (with(0, 0, 0, 0, 1), timer, begun, start, old, None),
+            (begun, timer, given_up, end_mark, old, None),
+            (more, timer, with(3, 3, 1, 1, 5), end_mark, old, None),
+            (given_up, frame(&[14, 7, 0, 0, 0, 1]), given_up, None, old, None),
         ];
-        for (before, event, after, frame, buffer) in cases {
-            self.set_case(&end, before, event, &old, (after, frame, &buffer));
+        for (before, event, after, frame, buffer, raised) in cases {
+            let wanted = (after, frame, &buffer[..]);
+            self.counted_case(&end, before, event, &old, wanted, raised);
         }
     }
 
@@ -204,7 +231,7 @@ impl Compare {
     /// A record that is not bad, also such as no run has.
     fn good_dump_record(&mut self, settings: DumpSettings) -> mop_proved::Dump {
         if self.random.once_in(8) {
-            return numbers(Session::Waiting);
+            return waiting(self.any_count());
         }
         let verdict = self.random.pick(&[0, 0, 0, 0, 0, 0, 0, 1, 2, 3]);
         let length = settings.length;
@@ -222,6 +249,7 @@ impl Compare {
             filled,
             replies,
             sent: self.random.pick(&[0, 1, most - 1, most, any]),
+            counts: self.any_counts(),
             repeats: self.any_repeats(settings.repeats),
             waiting: 0,
             verdict,
@@ -246,14 +274,7 @@ impl Compare {
             }
         }
         let room = self.any_reply_room();
-        let case = Case {
-            kind: "any record and frame",
-            end: &end,
-            record,
-            event,
-            room,
-            wanted: first(&[early, room_refusal(room), event.refusal(&end)]),
-        };
+        let case = Case::judged("any record and frame", &end, record, event, room, early);
         self.step(case, &mut buffer);
     }
 
@@ -286,7 +307,7 @@ impl Compare {
             return;
         }
         record.waiting = 0;
-        match self.random.below(7) {
+        match self.random.below(8) {
             0 => record.verdict = self.number_from(4),
             1 => record.repeats = settings.repeats + self.random.pick(&[1, 255, 1 << 16]),
             2 => record.filled = self.random.pick(&[length + far, u64::MAX]),
@@ -300,6 +321,7 @@ impl Compare {
                 record.filled = record.filled.min(length - 1);
                 record.replies = record.replies.min(record.filled);
             }
+            6 => record.counts = self.full_counts(),
             _ => {
                 record.verdict = self.random.pick(&[0, 2, 3]);
                 record.filled = length;
@@ -309,13 +331,15 @@ impl Compare {
 
     /// A waiting mark that cannot be, or beside a number that is not 0.
     fn waiting_dump_fault(&mut self, record: &mut mop_proved::Dump) {
-        *record = numbers(Session::Waiting);
-        match self.random.below(6) {
+        *record = waiting(self.any_count());
+        match self.random.below(8) {
             0 => record.waiting = self.number_from(2),
             1 => record.verdict = self.number_from(1),
             2 => record.filled = 1,
             3 => record.replies = self.random.pick(&[1, 1 << 32]),
             4 => record.sent = self.random.pick(&[1, 1 << 32]),
+            5 => record.counts = self.begun_counts(),
+            6 => record.counts = counts::only_ignored(TOP),
             _ => record.repeats = self.random.pick(&[1, 256]),
         }
     }
@@ -344,7 +368,7 @@ impl Compare {
             true => self.random.pick(&wrong),
             false => right,
         };
-        let asked = (settings.length - filled).min(settings.request_bytes.into()) as usize;
+        let asked = asked(settings, filled);
         let any = self.random.range(0, asked);
         let over = (asked + 1).min(1495);
         let length = self.random.pick(&[0, 1, any, any, asked, asked, over]);
@@ -370,10 +394,9 @@ impl Compare {
             verdict: 1,
             ..running
         };
-        let waiting = numbers(Session::Waiting);
         let buffer = self.random.bytes(40);
         let data = frames::dump_data(7, &[1, 2, 3]);
-        for record in [waiting, running, finished] {
+        for record in [waiting(0), running, finished] {
             for frame in [&[12, 0, 1, 0, 0, 0, 0, 0], &data[..], &[3]] {
                 self.rooms(&end, record, Event::Frame(Hex(frame)), &buffer);
             }
@@ -393,6 +416,11 @@ pub fn five_bytes(version: u8) -> Dump {
             version,
         },
     }
+}
+
+/// The bytes that are asked for when so many have come.
+pub fn asked(settings: DumpSettings, filled: u64) -> usize {
+    (settings.length - filled).min(settings.request_bytes.into()) as usize
 }
 
 /// The most frames that may have been sent.

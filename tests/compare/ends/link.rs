@@ -5,8 +5,9 @@
 
 use std::collections::VecDeque;
 
+use super::counts::is_handed;
 use super::machine::Machine;
-use super::{Case, End, Event, ROOM, first, room_refusal};
+use super::{Case, End, Event, ROOM, room_refusal};
 use crate::Compare;
 use crate::make::V2_1;
 use crate::random::Random;
@@ -67,6 +68,8 @@ pub struct Link<'a, H: End> {
     pub events: String,
     /// Each frame that the link has taken, with its sender.
     pub taken: Vec<(Side, Vec<u8>)>,
+    /// The frames handed over to the host that it is to count.
+    pub handed: u64,
 }
 
 impl<'a, H: End> Link<'a, H> {
@@ -89,6 +92,7 @@ impl<'a, H: End> Link<'a, H> {
             from_machine: VecDeque::new(),
             events: String::new(),
             taken: Vec::new(),
+            handed: 0,
         };
         link.call(compare, Side::Machine, Event::Start, ROOM);
         link.call(compare, Side::Host, Event::Start, ROOM);
@@ -157,6 +161,7 @@ impl<'a, H: End> Link<'a, H> {
         let (refusal, frame) = match side {
             Side::Host => {
                 let case = in_run(self.host, self.record, event, room);
+                self.handed += u64::from(is_handed(&case));
                 let outcome = compare.step(case, &mut self.buffer);
                 self.record = outcome.record;
                 (outcome.refusal, outcome.frame)
@@ -185,14 +190,11 @@ impl<'a, H: End> Link<'a, H> {
 }
 
 fn aside<'a, E: End>(end: &'a E, record: E::Record, event: Event<'a>, room: usize) -> Case<'a, E> {
-    Case {
-        kind: match end.version() {
-            V2_1 => "2.1: on the side of runs",
-            _ => "on the side of runs",
-        },
-        wanted: first(&[room_refusal(room), event.refusal(end)]),
-        ..in_run(end, record, event, room)
-    }
+    let kind = match end.version() {
+        V2_1 => "2.1: on the side of runs",
+        _ => "on the side of runs",
+    };
+    Case::judged(kind, end, record, event, room, 0)
 }
 
 /// Whatever the ends send each other is accepted.

@@ -1,5 +1,6 @@
 //! Compares the steps of the host's load, with and without a parameter string.
 
+use super::counts::{self, ADVANCES, Counting, Host, IGNORED, REJECTIONS, STARTS};
 use super::{Case, End, Event, ROOM, first, frames, room_refusal};
 use crate::Compare;
 use crate::images::{self, Good, Region};
@@ -9,7 +10,7 @@ use mop_plain::image;
 use mop_plain::load::{self, Progress, Session};
 use mop_plain::step::Sent;
 use mop_plain::version::Version;
-use mop_proved::{LoadSettings, Step, Written};
+use mop_proved::{Counts, LoadSettings, Step, Written};
 
 const FILE_MOST: usize = 16_777_216;
 
@@ -41,7 +42,7 @@ impl End for Load<'_> {
         reply: &mut [u8],
     ) -> Result<(Self::Record, Sent), u8> {
         if matches!(event, Event::Start) {
-            return Ok((numbers(Session::Waiting), None));
+            return Ok((numbers(Session::FRESH), None));
         }
         let (Hex(file), Hex(string)) = (self.file, self.parameters);
         let settings = load::Settings {
@@ -56,6 +57,7 @@ impl End for Load<'_> {
             record.position,
             record.repeats,
             record.sent,
+            counts::plain(record.counts),
         )?;
         let sent = match event {
             Event::Frame(Hex(bytes)) => load::frame(settings, &mut session, file, bytes, reply)?,
@@ -109,29 +111,49 @@ impl End for Load<'_> {
         record.verdict
     }
 
+    fn host(record: &Self::Record) -> Option<Host> {
+        Some(Host {
+            waits: record.waiting == 1,
+            verdict: record.verdict,
+            progress: record.position,
+            taken: record.position,
+            counts: counts::four(record.counts),
+        })
+    }
+
     fn version(&self) -> u8 {
         self.settings.version
     }
 }
 
-pub fn numbers(session: Session) -> mop_proved::Load {
+impl Counting for Load<'_> {
+    fn with_counts(record: mop_proved::Load, counts: Counts) -> mop_proved::Load {
+        mop_proved::Load { counts, ..record }
+    }
+}
+
+fn numbers(session: Session) -> mop_proved::Load {
     match session {
-        Session::Waiting => mop_proved::Load {
-            waiting: 1,
-            ..Default::default()
-        },
+        Session::Waiting { ignored } => waiting(ignored),
         Session::Begun(Progress {
             verdict,
             position,
             repeats,
             sent,
+            counts,
         }) => mop_proved::Load {
-            position,
-            sent,
-            repeats,
-            waiting: 0,
-            verdict: verdict as u8,
+            counts: counts::from_plain(counts),
+            ..ended(verdict as u8, position, repeats, sent)
         },
+    }
+}
+
+/// Waiting, so many frames ignored.
+pub fn waiting(ignored: u64) -> mop_proved::Load {
+    mop_proved::Load {
+        counts: counts::only_ignored(ignored),
+        waiting: 1,
+        ..Default::default()
     }
 }
 
@@ -157,11 +179,12 @@ pub fn running(position: u64, repeats: u32, sent: u64) -> mop_proved::Load {
     ended(0, position, repeats, sent)
 }
 
-/// With this verdict.
+/// With this verdict, and no frame counted.
 pub fn ended(verdict: u8, position: u64, repeats: u32, sent: u64) -> mop_proved::Load {
     mop_proved::Load {
         position,
         sent,
+        counts: Counts::default(),
         repeats,
         waiting: 0,
         verdict,
@@ -196,7 +219,7 @@ impl Compare {
             file: Hex(&file),
             parameters: Hex(&[]),
         };
-        let waiting = numbers(Session::Waiting);
+        let waiting = waiting(0);
         let with = ended;
         let frame = |frame| Event::Frame(Hex(frame));
         let timer = Event::Timer;
@@ -205,26 +228,26 @@ impl Compare {
         let last: Option<&[u8]> = Some(&[0, 1, 4, 0, 0, 0, 12, 2, 0, 0, 0]);
         #[rustfmt::skip]
         let cases = [
-            (waiting, request, with(0, 0, 0, 1), first),
-            (waiting, frame(&[8, 0, 1, 1, 255, 0]), waiting, None),
-            (waiting, frame(&[10, 1, 0]), waiting, None),
-            (waiting, timer, waiting, None),
-            (with(0, 0, 1, 2), request, with(0, 0, 1, 2), None),
-            (with(0, 0, 1, 2), frame(&[10, 1, 0]), with(0, 1, 0, 3), last),
-            (with(0, 0, 1, 2), frame(&[10, 1, 9]), with(2, 0, 1, 2), None),
-            (with(0, 0, 1, 2), frame(&[10, 2, 9]), with(0, 0, 1, 2), None),
+            (waiting, request, with(0, 0, 0, 1), first, Some(STARTS)),
+            (waiting, frame(&[8, 0, 1, 1, 255, 0]), waiting, None, Some(IGNORED)),
+            (waiting, frame(&[10, 1, 0]), waiting, None, Some(IGNORED)),
+            (waiting, timer, waiting, None, None),
+            (with(0, 0, 1, 2), request, with(0, 0, 1, 2), None, Some(IGNORED)),
+            (with(0, 0, 1, 2), frame(&[10, 1, 0]), with(0, 1, 0, 3), last, Some(ADVANCES)),
+            (with(0, 0, 1, 2), frame(&[10, 1, 9]), with(2, 0, 1, 2), None, Some(REJECTIONS)),
+            (with(0, 0, 1, 2), frame(&[10, 2, 9]), with(0, 0, 1, 2), None, Some(IGNORED)),
             // A doubled reply sends nothing.
-            (with(0, 1, 0, 3), frame(&[10, 1, 0]), with(0, 1, 0, 3), None),
-            (with(0, 1, 1, 3), frame(&[10, 2, 0]), with(1, 2, 0, 3), None),
-            (with(0, 0, 0, 1), timer, with(0, 0, 1, 2), first),
-            (with(0, 0, 1, 2), timer, with(3, 0, 1, 2), None),
+            (with(0, 1, 0, 3), frame(&[10, 1, 0]), with(0, 1, 0, 3), None, Some(IGNORED)),
+            (with(0, 1, 1, 3), frame(&[10, 2, 0]), with(1, 2, 0, 3), None, Some(ADVANCES)),
+            (with(0, 0, 0, 1), timer, with(0, 0, 1, 2), first, None),
+            (with(0, 0, 1, 2), timer, with(3, 0, 1, 2), None, None),
             // The last segment's silence is not a failure.
-            (with(0, 1, 1, 3), timer, with(4, 1, 1, 3), None),
-            (with(3, 0, 1, 2), frame(&[10, 1, 0]), with(3, 0, 1, 2), None),
-            (with(4, 1, 0, 2), timer, with(4, 1, 0, 2), None),
+            (with(0, 1, 1, 3), timer, with(4, 1, 1, 3), None, None),
+            (with(3, 0, 1, 2), frame(&[10, 1, 0]), with(3, 0, 1, 2), None, None),
+            (with(4, 1, 0, 2), timer, with(4, 1, 0, 2), None, None),
         ];
-        for (before, event, after, frame) in cases {
-            self.set_case(&end, before, event, &[], (after, frame, &[]));
+        for (before, event, after, frame, raised) in cases {
+            self.counted_case(&end, before, event, &[], (after, frame, &[]), raised);
         }
     }
 
@@ -250,7 +273,7 @@ impl Compare {
     /// as no run has.
     fn good_load_record(&mut self, settings: LoadSettings, frames: u64) -> mop_proved::Load {
         if self.random.once_in(8) {
-            return numbers(Session::Waiting);
+            return waiting(self.any_count());
         }
         let verdict = self.random.pick(&[0, 0, 0, 0, 0, 0, 0, 1, 2, 3, 4]);
         let last = frames - 1;
@@ -263,6 +286,7 @@ impl Compare {
         mop_proved::Load {
             position: if verdict == 1 { frames } else { position },
             sent: self.random.pick(&[0, 1, most - 1, most, any]),
+            counts: self.any_counts(),
             repeats: self.any_repeats(settings.repeats),
             waiting: 0,
             verdict,
@@ -337,7 +361,7 @@ impl Compare {
     /// Breaks a rule that is judged before the reply buffer and the image.
     fn early_load_fault(&mut self, settings: &mut LoadSettings, record: &mut mop_proved::Load) {
         let high = self.random.pick(&[1, 255, 1 << 16]);
-        match self.random.below(11) {
+        match self.random.below(13) {
             0 => settings.segment_size = self.random.pick(&[0, 1491, 65_537, u32::MAX]),
             1 => settings.repeats = self.random.pick(&[256, 257, 65_536, u32::MAX]),
             2 => record.repeats = settings.repeats + high,
@@ -348,8 +372,10 @@ impl Compare {
             7 => (record.waiting, record.sent) = (1, self.random.pick(&[1, 1 << 32])),
             8 => settings.with_parameters = self.number_from(2),
             9 => settings.version = self.random.pick(&NO_VERSIONS),
+            10 => record.counts = self.full_counts(),
+            11 => (record.waiting, record.counts) = (1, self.begun_counts()),
             _ => {
-                *record = numbers(Session::Waiting);
+                *record = waiting(self.any_count());
                 match self.random.once_in(2) {
                     true => record.verdict = self.number_from(1),
                     false => record.repeats = self.random.pick(&[1, 256]),
@@ -404,9 +430,8 @@ impl Compare {
             end.settings.with_parameters = mark;
             let image = image::check(&file, end.settings.segment_size);
             let frames = end.frames(image.map_or(0, |image| image.segments()));
-            let waiting = numbers(Session::Waiting);
             let request = [8, 0, 1, 2, 255, 0];
-            for record in [waiting, running(0, 0, 1), ended(1, frames, 0, 1)] {
+            for record in [waiting(0), running(0, 0, 1), ended(1, frames, 0, 1)] {
                 for frame in [&request[..], &[10, 1, 0], &[3]] {
                     self.rooms(&end, record, Event::Frame(Hex(frame)), &[]);
                 }

@@ -1,7 +1,8 @@
 //! Compares loads that end with parameters: their last frames, strings of every
 //! sort in every call, and the order of refusals.
 
-use super::load::{EXAMPLE_SETTINGS, Load, ended, example, numbers, running};
+use super::counts::{ADVANCES, IGNORED, REJECTIONS, STARTS, TOP};
+use super::load::{EXAMPLE_SETTINGS, Load, ended, example, running, waiting};
 use super::strings::{Judged, set_strings};
 use super::{Case, Event, ROOM, first, frames, room_refusal};
 use crate::images::{self, Region};
@@ -9,7 +10,6 @@ use crate::make::{V2_1, VERSIONS};
 use crate::tally::Hex;
 use crate::{Compare, Wanted};
 use mop_plain::frame::Frame;
-use mop_plain::load::Session;
 use mop_proved::LoadSettings;
 
 const REQUEST: [u8; 6] = [8, 0, 1, 2, 255, 0];
@@ -33,7 +33,7 @@ const LONG_NAME: [u8; 16] = [20, 0, 3, 7, 1, 2, 3, 4, 5, 6, 7, 0, 1, 2, 3, 4];
 
 /// Settings and records that break a rule before all else is judged.
 type Early = fn(&mut LoadSettings, &mut mop_proved::Load);
-const EARLY: [(Early, u8); 10] = [
+const EARLY: [(Early, u8); 14] = [
     (|_, _| (), 0),
     (|settings, _| settings.segment_size = 0, 10),
     (|settings, _| settings.repeats = 256, 10),
@@ -44,6 +44,10 @@ const EARLY: [(Early, u8); 10] = [
     (|_, record| record.verdict = 5, 10),
     (|_, record| record.repeats = 2, 10),
     (|_, record| record.waiting = 2, 10),
+    (|_, record| record.counts.starts = TOP, 10),
+    (|_, record| record.counts.advances = TOP, 10),
+    (|_, record| record.counts.ignored = TOP, 10),
+    (|_, record| record.counts.rejections = TOP, 10),
 ];
 
 /// The rehearsal's example, with this version, mark and string: 2 segments.
@@ -109,31 +113,31 @@ impl Compare {
         let end = example_with(version, &file, 1, &[1, 2, 65, 66]);
         let frame = |frame| Event::Frame(Hex(frame));
         let timer = Event::Timer;
-        let waiting = numbers(Session::Waiting);
+        let waiting = waiting(0);
         let first: Option<&[u8]> = Some(&[2, 0, 2, 0, 0, 0, 10, 11]);
         let second: Option<&[u8]> = Some(&[2, 1, 4, 0, 0, 0, 12]);
         let last: Option<&[u8]> = Some(&[20, 2, 1, 2, 65, 66, 0, 2, 0, 0, 0]);
         #[rustfmt::skip]
         let cases = [
-            (waiting, frame(&REQUEST), running(0, 0, 1), first),
-            (waiting, timer, waiting, None),
-            (running(0, 1, 2), frame(&[10, 1, 0]), running(1, 0, 3), second),
-            (running(1, 1, 3), frame(&[10, 2, 0]), running(2, 0, 4), last),
-            (running(2, 0, 4), frame(&[10, 2, 0]), running(2, 0, 4), None),
-            (running(2, 1, 4), frame(&[10, 3, 0]), ended(1, 3, 0, 4), None),
-            (running(2, 1, 4), frame(&[10, 3, 9]), ended(2, 2, 1, 4), None),
-            (running(1, 0, 3), timer, running(1, 1, 4), second),
+            (waiting, frame(&REQUEST), running(0, 0, 1), first, Some(STARTS)),
+            (waiting, timer, waiting, None, None),
+            (running(0, 1, 2), frame(&[10, 1, 0]), running(1, 0, 3), second, Some(ADVANCES)),
+            (running(1, 1, 3), frame(&[10, 2, 0]), running(2, 0, 4), last, Some(ADVANCES)),
+            (running(2, 0, 4), frame(&[10, 2, 0]), running(2, 0, 4), None, Some(IGNORED)),
+            (running(2, 1, 4), frame(&[10, 3, 0]), ended(1, 3, 0, 4), None, Some(ADVANCES)),
+            (running(2, 1, 4), frame(&[10, 3, 9]), ended(2, 2, 1, 4), None, Some(REJECTIONS)),
+            (running(1, 0, 3), timer, running(1, 1, 4), second, None),
             // Silence after the last segment is a failure: a frame is missing.
-            (running(1, 1, 3), timer, ended(3, 1, 1, 3), None),
-            (running(2, 0, 4), timer, running(2, 1, 5), last),
-            (running(2, 1, 4), timer, ended(4, 2, 1, 4), None),
-            (ended(1, 3, 0, 4), timer, ended(1, 3, 0, 4), None),
-            (ended(1, 3, 0, 4), frame(&[10, 3, 0]), ended(1, 3, 0, 4), None),
+            (running(1, 1, 3), timer, ended(3, 1, 1, 3), None, None),
+            (running(2, 0, 4), timer, running(2, 1, 5), last, None),
+            (running(2, 1, 4), timer, ended(4, 2, 1, 4), None, None),
+            (ended(1, 3, 0, 4), timer, ended(1, 3, 0, 4), None, None),
+            (ended(1, 3, 0, 4), frame(&[10, 3, 0]), ended(1, 3, 0, 4), None, None),
             // A record at its bound of frames sent is not bad.
-            (running(2, 0, 6), timer, running(2, 1, 7), last),
+            (running(2, 0, 6), timer, running(2, 1, 7), last, None),
         ];
-        for (before, event, after, frame) in cases {
-            self.set_case(&end, before, event, &[], (after, frame, &[]));
+        for (before, event, after, frame, raised) in cases {
+            self.counted_case(&end, before, event, &[], (after, frame, &[]), raised);
         }
         let empty = example_with(version, &file, 1, &[]);
         let wanted = (running(2, 1, 5), Some(&[20, 2, 0, 2, 0, 0, 0][..]), &[][..]);
@@ -165,15 +169,15 @@ impl Compare {
         let over = Event::Frame(Hex(&over));
         #[rustfmt::skip]
         let cases = [
-            (running(last, 0, 1), timer, running(last, 1, 2), Some(&segment[..])),
-            (running(last, 1, 1), timer, ended(3, last, 1, 1), None),
-            (running(last, 0, 1), in_turn, running(segments, 0, 2), Some(&parameters)),
-            (running(segments, 0, 1), timer, running(segments, 1, 2), Some(&parameters)),
-            (running(segments, 1, 1), timer, ended(4, segments, 1, 1), None),
-            (running(segments, 1, 1), over, ended(1, segments + 1, 0, 1), None),
+            (running(last, 0, 1), timer, running(last, 1, 2), Some(&segment[..]), None),
+            (running(last, 1, 1), timer, ended(3, last, 1, 1), None, None),
+            (running(last, 0, 1), in_turn, running(segments, 0, 2), Some(&parameters), Some(ADVANCES)),
+            (running(segments, 0, 1), timer, running(segments, 1, 2), Some(&parameters), None),
+            (running(segments, 1, 1), timer, ended(4, segments, 1, 1), None, None),
+            (running(segments, 1, 1), over, ended(1, segments + 1, 0, 1), None, Some(ADVANCES)),
         ];
-        for (before, event, after, frame) in cases {
-            self.set_case(end, before, event, &[], (after, frame, &[]));
+        for (before, event, after, frame, raised) in cases {
+            self.counted_case(end, before, event, &[], (after, frame, &[]), raised);
         }
     }
 
@@ -184,12 +188,12 @@ impl Compare {
         let (timer, answer) = (Event::Timer, Event::Frame(Hex(&answer)));
         #[rustfmt::skip]
         let cases = [
-            (running(last, 0, 1), timer, running(last, 1, 2), Some(&segment[..])),
-            (running(last, 1, 1), timer, ended(4, last, 1, 1), None),
-            (running(last, 1, 1), answer, ended(1, segments, 0, 1), None),
+            (running(last, 0, 1), timer, running(last, 1, 2), Some(&segment[..]), None),
+            (running(last, 1, 1), timer, ended(4, last, 1, 1), None, None),
+            (running(last, 1, 1), answer, ended(1, segments, 0, 1), None, Some(ADVANCES)),
         ];
-        for (before, event, after, frame) in cases {
-            self.set_case(end, before, event, &[], (after, frame, &[]));
+        for (before, event, after, frame, raised) in cases {
+            self.counted_case(end, before, event, &[], (after, frame, &[]), raised);
         }
     }
 
@@ -249,7 +253,8 @@ impl Compare {
         let given = example_with(version, &file, 1, string);
         let absent = example_with(version, &file, 0, string);
         for record in [
-            numbers(Session::Waiting),
+            waiting(0),
+            waiting(7),
             running(0, 0, 1),
             running(1, 1, 3),
             running(2, 0, 4),

@@ -3,6 +3,8 @@
 
 mod beyond;
 mod blocks;
+mod count_cases;
+mod counts;
 mod dump;
 mod frames;
 mod link;
@@ -12,6 +14,7 @@ mod looping;
 mod machine;
 mod machine_parameters;
 mod machine_windows;
+mod noise;
 mod runs;
 mod seen;
 mod strings;
@@ -28,6 +31,7 @@ use mop_plain::step::Sent;
 use mop_plain::version::Version;
 use mop_proved::{Step, Written};
 
+use counts::Host;
 pub use seen::Seen;
 
 /// A step needs a reply buffer of this many bytes.
@@ -79,6 +83,11 @@ pub trait End: Debug {
     /// The record's verdict, or the machine's state.
     fn verdict(record: &Self::Record) -> u8;
 
+    /// What the record says of the frames that came, if it has counts.
+    fn host(_: &Self::Record) -> Option<Host> {
+        None
+    }
+
     /// The version in its settings, which may be none.
     fn version(&self) -> u8;
 }
@@ -123,7 +132,27 @@ pub struct Case<'a, E: End> {
     wanted: u8,
 }
 
-impl<E: End> Case<'_, E> {
+impl<'a, E: End> Case<'a, E> {
+    /// A call with this refusal of its settings or record, 0 for none; those
+    /// of the reply buffer and of the frame come behind it.
+    fn judged(
+        kind: &'static str,
+        end: &'a E,
+        record: E::Record,
+        event: Event<'a>,
+        room: usize,
+        refusal: u8,
+    ) -> Self {
+        Case {
+            kind,
+            end,
+            record,
+            event,
+            room,
+            wanted: first(&[refusal, room_refusal(room), event.refusal(end)]),
+        }
+    }
+
     /// The record that a refusal gives back.
     fn kept(&self) -> E::Record {
         match self.event {
@@ -181,10 +210,12 @@ impl Compare {
         self.machine_steps();
         self.load_steps();
         self.dump_steps();
+        self.count_cases();
         self.set_run();
         self.load_runs();
         self.window_runs();
         self.dump_runs();
+        self.noisy_sessions();
         self.all_loops();
         self.host_versions();
         self.ends_beyond_32_bits();
@@ -380,8 +411,9 @@ fn in_c<E: End>(case: &Case<E>, answer: Result<(E::Record, Sent), u8>) -> Step<E
     }
 }
 
-/// Checks a plain step by itself: the wanted refusal, which changes nothing; a
-/// readable frame; all bytes outside the frame and the store in their place.
+/// Checks a plain step by itself: the wanted refusal, which changes nothing;
+/// the right count raised; a readable frame; all bytes outside the frame and
+/// the store in their place.
 fn judge<E: End>(
     case: &Case<E>,
     answer: Result<(E::Record, Sent), u8>,
@@ -394,6 +426,9 @@ fn judge<E: End>(
     }
     if refusal != 0 && before != after {
         return Err("a refusal changes nothing".to_string());
+    }
+    if let Ok((record, _)) = answer {
+        counts::judge(case, &record)?;
     }
     let frame = sent_bytes(answer, &after.reply).unwrap_or_default();
     if !frame.is_empty() && read(case.end, &frame).is_err() {

@@ -1,6 +1,7 @@
 //! Whole runs of both ends over a link, and what the protocol claims of each.
 
 use super::blocks::{self, Block, MEMORY_LEAST, small_memory};
+use super::counts;
 use super::dump::{Dump, sent_most};
 use super::link::{Link, Mix, Side};
 use super::load::{EXAMPLE_SETTINGS, Load, example};
@@ -169,6 +170,7 @@ impl Job {
         if record.sent != taken || taken > most {
             return Err(format!("{taken} sent, at most {most}"));
         }
+        counts::claim::<Load>(&record, link.handed)?;
         if self.in_window(&link.memory) != self.in_window(&self.memory) {
             return Err("the window's bytes are the old ones".to_string());
         }
@@ -228,6 +230,7 @@ fn dump_claim(link: &Link<Dump>, memory: &[u8], buffer: &[u8]) -> Result<(), Str
     if record.sent != taken || taken > most {
         return Err(format!("{taken} sent, at most {most}"));
     }
+    counts::claim::<Dump>(&record, link.handed)?;
     if link.memory != memory {
         return Err("memory stays".to_string());
     }
@@ -301,6 +304,7 @@ impl Compare {
             }
         }
         self.check_claim(&link, &claim);
+        self.tally.summed("over the link");
         link.record
     }
 

@@ -2,6 +2,7 @@
 
 use std::collections::BTreeMap;
 
+use super::counts::{Host, TOP};
 use super::{Case, End, Event, Outcome};
 use crate::make::V2_1;
 use crate::tally::{Tally, commas};
@@ -12,7 +13,7 @@ const WITHOUT_FRAME: &[u8] = &[0, 9, 10];
 const OF_MACHINE: &[u8] = &[0, 9, 10, 11];
 
 /// Each row, with all that can occur in it.
-const POSSIBLE: [(&str, &str, &[u8]); 32] = [
+const POSSIBLE: [(&str, &str, &[u8]); 42] = [
     ("machine", "start", OF_MACHINE),
     ("machine", "frame", &[0, 1, 2, 3, 4, 9, 10, 11]),
     ("machine", "timer", OF_MACHINE),
@@ -45,6 +46,16 @@ const POSSIBLE: [(&str, &str, &[u8]); 32] = [
     (WITH_BLOCK, LONG_RUNS, &[FINISHED]),
     ("dump", LONG_RUNS, &[FINISHED]),
     (WITH_BLOCK, LAST_FRAME, &[REJECTED]),
+    ("noisy load", RUNS, &[0, 1, 2, 3, 4]),
+    ("noisy dump", RUNS, &[0, 1, 3]),
+    ("load", RAISED, &[0, 1, 2, 3]),
+    ("dump", RAISED, &[0, 1, 2]),
+    ("load", AT_TOP, &[0, 1, 2, 3]),
+    ("dump", AT_TOP, &[0, 1, 2, 3]),
+    ("load", BELOW_TOP, &[0, 1, 2, 3]),
+    ("dump", BELOW_TOP, &[0, 1, 2, 3]),
+    ("load", TO_TOP, &[1, 2, 3]),
+    ("dump", TO_TOP, &[1, 2]),
 ];
 /// Loads with a parameter string.
 const WITH_PARAMETERS: &str = "load with parameters";
@@ -57,6 +68,13 @@ const RUNS: &str = "runs ended";
 const LONG_RUNS: &str = "long runs ended";
 /// Ended at the code 20.
 const LAST_FRAME: &str = "runs at code 20";
+/// Which of the four counts, 0 to 3, a call raised, and which stood at 2^64 - 1
+/// or one below before it, or came there. A session is started once, and no
+/// dump is rejected.
+const RAISED: &str = "count raised";
+const AT_TOP: &str = "count at the top";
+const BELOW_TOP: &str = "count one below the top";
+const TO_TOP: &str = "count raised to the top";
 
 /// Above this many frames, their numbers have come round.
 const LONG: u64 = 257;
@@ -66,6 +84,10 @@ const REJECTED: u8 = 2;
 #[derive(Default)]
 pub struct Seen {
     rows: BTreeMap<(&'static str, &'static str), BTreeMap<u8, u64>>,
+    /// Calls with a count at the top.
+    pub at_top: u64,
+    /// Calls with a count one below, and none at the top.
+    pub below_top: u64,
 }
 
 impl Seen {
@@ -80,6 +102,29 @@ impl Seen {
         self.count(end, RUNS, verdict);
         if length > LONG && verdict == FINISHED {
             self.count(end, LONG_RUNS, verdict);
+        }
+    }
+
+    /// A call was made with these counts, and left these.
+    fn counts(&mut self, end: &'static str, before: Host, after: Host) {
+        let at = |number| before.counts.contains(&number);
+        self.at_top += u64::from(at(TOP));
+        self.below_top += u64::from(at(TOP - 1) && !at(TOP));
+        for which in 0..4 {
+            let [before, after] = [before, after].map(|host| host.counts[usize::from(which)]);
+            self.one_count(end, which, before, after);
+        }
+    }
+
+    fn one_count(&mut self, end: &'static str, which: u8, before: u64, after: u64) {
+        let rows = [
+            (RAISED, after > before),
+            (AT_TOP, before == TOP),
+            (BELOW_TOP, before == TOP - 1),
+            (TO_TOP, after > before && after == TOP),
+        ];
+        for (row, _) in rows.into_iter().filter(|(_, seen)| *seen) {
+            self.count(end, row, which);
         }
     }
 
@@ -98,7 +143,7 @@ impl Seen {
     }
 
     pub fn print(&self) {
-        println!("  ends: refusals, verdicts or states reached, codes sent");
+        println!("  ends: refusals, verdicts or states reached, codes sent, counts");
         for ((end, row), answers) in &self.rows {
             let counts: String = answers
                 .iter()
@@ -138,6 +183,9 @@ impl Tally {
         }
         if let Some(&code) = outcome.frame.as_ref().and_then(|frame| frame.first()) {
             seen.count(E::NAME, CODES, code);
+        }
+        if let (Some(before), Some(after)) = (E::host(&case.record), E::host(&outcome.record)) {
+            seen.counts(E::NAME, before, after);
         }
     }
 }

@@ -5,6 +5,7 @@ use lib.ListN.{length, take, drop, length-take, length-drop}
 use native.Mathlib.Omega.{arith}
 use Rattle.message.specs.Laws.{fields-inside}
 use Rattle.step.specs.Laws.{frame-call-refused, frame-refused}
+use Rattle.dump_record.specs.Record.{tallied}
 use Rattle.dump.specs.Dump.{onFrame}
 use Rattle.dump_checks.specs.Laws.{Accepted, accepted}
 use Rattle.dump.specs.Laws.{ready-frame, stepped}
@@ -79,12 +80,24 @@ fill-requires c κs =
     simp (length-take, length-drop) (omega (arith, inside read)) in
     rw (size, count, c .before .before .before .react .ensures) (ready-frame (a .settings) (a .session) _ _ (allowed read) f .1)
 
+tallied-requires : tie.Need-tallied-requires
+tallied-requires c κs = search needs
+
+-- the frame is counted, and the call is ready for what is done next
+counted : (c : tie.After-tallied)
+    → let went = c .before .before .before .before .before .before .before in
+    let a = went .before .before .before .before .before .before .before .before .before .args in
+    c .tallied .result ≡ tallied (a .session) (went .react .result)
+counted c =
+    let went = c .before .before .before .before .before .before .before in
+    c .tallied .ensures .0 (allowed (went .before .before .before) .numbers .below-top)
+
 tell-requires : tie.Need-tell-requires
 tell-requires c κs =
-    let went = c .before .before .before .before .before .before .before in
+    let went = c .before .before .before .before .before .before .before .before in
     let read = went .before .before .before in
     let a = read .before .before .before .before .before .before .args in
-    rw (went .react .ensures) (ready-frame (a .settings) (a .session) _ _ (allowed read) (read .read .result) .0)
+    rw (counted (c .before), went .react .ensures) (ready-frame (a .settings) (a .session) _ _ (allowed read) (read .read .result) .0)
 
 same-length : tie.Need-same-length
 same-length c = search needs
@@ -94,7 +107,8 @@ same-length-2 c = search needs
 
 returns-3 : tie.Need-returns-3
 returns-3 c =
-    let went = c .before .before .before .before .before .before in
+    let tallies = c .before .before .before .before in
+    let went = tallies .before .before .before in
     let read = went .before .before .before .before .before .before .before in
     let react = went .before .before .before .before .react in
     let fill = went .fill in
@@ -103,8 +117,8 @@ returns-3 c =
     let a = read .before .before .before .before .before .before .args in
     let none = rw (read .before .before .refusal .ensures) at (read .before .if1 .left) in
     let size : f .«data_at» + f .«data_length» - f .«data_at» ≡ f .«data_length» = omega arith in
-    stepped (a .settings) (a .session) (a .frame .now) (a .buffer .now) (a .reply .now) f (react .result) (fill .last .1 .1 .1 .0) none (read .read .ensures)
-    (went .before .before .before .before .before .if2 .left) (react .ensures) (rw size at (fill .ensures)) (tell .ensures (fill .last .1 .1 .1 .0))
+    stepped (a .settings) (a .session) (a .frame .now) (a .buffer .now) (a .reply .now) f (react .result) (tallies .tallied .result) (fill .last .1 .1 .1 .0) none (read .read .ensures)
+    (went .before .before .before .before .before .if2 .left) (react .ensures) (counted tallies) (rw size at (fill .ensures)) (tell .ensures (fill .last .1 .1 .1 .0))
 
 pub frame-spec : {M : Type 1} → statement M
 frame-spec =
@@ -122,6 +136,7 @@ frame-spec =
     part-fill-start
     part-fill-end
     fill-requires
+    tallied-requires
     tell-requires
     same-length
     same-length-2

@@ -3,6 +3,7 @@ use Prim.Native.Nat.{_+_, _*_}
 use mathlib.Core.Path.{_≡_}
 use mathlib.Core.Bool.{true, not, _&&_, cond}
 use lib.Dec.{eqb, leb}
+use Rattle.counts.specs.Counts.{below}
 use Rattle.dump_checks.specs.Checks.{blank, sound}
 use Rattle.dump_checks.specs.Laws.{bound}
 use native.Mathlib.Omega.{arith}
@@ -14,7 +15,7 @@ use Rattle.dump_checks.proofs.sound.Tie as tie
 four : (c : tie.Else4)
     → let s = c .before .before .before .before .before .before .before .before .before .before .args .s in
     let h = c .before .before .before .before .before .before .before .before .before .before .args .h in
-    sound s h ≡ (leb (h .sent) ((h .replies + 1) * (s .repeats + 1) + 1) && leb (h .waiting) 1 && cond (eqb (h .waiting) 1) (blank h) true
+    sound s h ≡ (leb (h .sent) ((h .replies + 1) * (s .repeats + 1) + 1) && leb (h .waiting) 1 && below (h .counts) && cond (eqb (h .waiting) 1) (blank h) true
     && cond (eqb (h .verdict) 1) (eqb (h .filled) (s .length)) (not (eqb (h .filled) (s .length))))
 four c =
     let three = c .before .before in
@@ -65,25 +66,42 @@ returns-5 c = rw (four (c .before .before .before .before), lt-leb _ _ (c .if5 .
 returns-6 : tie.Need-returns-6
 returns-6 c = rw (four (c .before .before .before .before .before .before), le-leb _ _ (c .before .before .if5 .left), lt-leb _ _ (c .if6 .taken))
 
-unstarted-requires : tie.Need-unstarted-requires
-unstarted-requires c κs = search needs
+below-requires : tie.Need-below-requires
+below-requires c κs = search needs
+
+-- past the test of the counts
+seven : (c : tie.Else7)
+    → let a = c .before .before .before .before .before .before .before .before .before .before .before .before .before .before .before .before .before .before .args in
+    sound (a .s) (a .h) ≡ (cond (eqb (a .h .waiting) 1) (blank (a .h)) true
+    && cond (eqb (a .h .verdict) 1) (eqb (a .h .filled) (a .s .length)) (not (eqb (a .h .filled) (a .s .length))))
+seven c =
+    let six = c .before .before in
+    let five = six .before .before in
+    let below = c .before .below in
+    rw (four (five .before .before .before .before), le-leb _ _ (five .if5 .left), le-leb _ _ (six .if6 .left), ← below .ensures, not-false (below .result) (c .if7 .left))
 
 returns-7 : tie.Need-returns-7
 returns-7 c =
     let six = c .before .before in
     let five = six .before .before in
+    let below = c .before .below in
+    rw (four (five .before .before .before .before), le-leb _ _ (five .if5 .left), le-leb _ _ (six .if6 .left), ← below .ensures, not-true (below .result) (c .if7 .taken))
+
+unstarted-requires : tie.Need-unstarted-requires
+unstarted-requires c κs = search needs
+
+returns-8 : tie.Need-returns-8
+returns-8 c =
     let unstarted = c .before .unstarted in
-    rw (four (five .before .before .before .before), le-leb _ _ (five .if5 .left), le-leb _ _ (six .if6 .left), ← unstarted .ensures, not-true (unstarted .result) (c .if7 .taken))
+    rw (seven (c .before .before), ← unstarted .ensures, not-true (unstarted .result) (c .if8 .taken))
 
 agrees-requires : tie.Need-agrees-requires
 agrees-requires c κs = search needs
 
-returns-8 : tie.Need-returns-8
-returns-8 c =
-    let six = c .before .before .before in
-    let five = six .before .before in
+returns-9 : tie.Need-returns-9
+returns-9 c =
     let unstarted = c .before .before .unstarted in
-    rw (four (five .before .before .before .before), le-leb _ _ (five .if5 .left), le-leb _ _ (six .if6 .left), ← unstarted .ensures, not-false (unstarted .result) (c .before .if7 .left)) (c .agrees .ensures)
+    rw (seven (c .before .before .before), ← unstarted .ensures, not-false (unstarted .result) (c .before .if8 .left)) (c .agrees .ensures)
 
 pub sound-spec : {M : Type 1} → statement M
 sound-spec =
@@ -100,7 +118,9 @@ sound-spec =
     add-most-3
     returns-5
     returns-6
-    unstarted-requires
+    below-requires
     returns-7
+    unstarted-requires
+    returns-8
     agrees-requires
-    returns-8)
+    returns-9)

@@ -1,7 +1,9 @@
 use mathlib.Core.Path.{_≡_}
 use mathlib.Core.Bool.{_&&_, true, cond}
 use lib.Dec.{eqb}
+use borrow.Author.Needs.{needs}
 use borrow.Author.Tests.{eq-eqb, ne-eqb}
+use Rattle.counts.specs.Counts.{onlyIgnored}
 use Rattle.dump_checks.specs.Checks.{blank}
 use Rattle.dump_checks.proofs.unstarted.Statement.{statement}
 use Rattle.dump_checks.proofs.unstarted.Tie as tie
@@ -9,7 +11,7 @@ use Rattle.dump_checks.proofs.unstarted.Tie as tie
 -- past the first three tests
 three : (c : tie.Else3)
     → let h = c .before .before .before .before .before .before .args .h in
-    cond (eqb (h .waiting) 1) (blank h) true ≡ (eqb (h .replies) 0 && eqb (h .repeats) 0 && eqb (h .sent) 0)
+    cond (eqb (h .waiting) 1) (blank h) true ≡ (eqb (h .replies) 0 && eqb (h .repeats) 0 && eqb (h .sent) 0 && onlyIgnored (h .counts))
 three c =
     let two = c .before .before in
     rw (eq-eqb _ _ (two .before .before .if1 .left), eq-eqb _ _ (two .if2 .left), eq-eqb _ _ (c .if3 .left))
@@ -35,9 +37,19 @@ returns-5 c =
 
 returns-6 : tie.Need-returns-6
 returns-6 c =
-    let five = c .before in
+    let five = c .before .before in
     let four = five .before .before in
-    rw (three (four .before .before), eq-eqb _ _ (four .if4 .left), eq-eqb _ _ (five .if5 .left))
+    rw (three (four .before .before), eq-eqb _ _ (four .if4 .left), eq-eqb _ _ (five .if5 .left), ne-eqb _ _ (c .if6 .taken))
+
+only-ignored-requires : tie.Need-only-ignored-requires
+only-ignored-requires c κs = search needs
+
+returns-7 : tie.Need-returns-7
+returns-7 c =
+    let six = c .before in
+    let five = six .before .before in
+    let four = five .before .before in
+    rw (three (four .before .before), eq-eqb _ _ (four .if4 .left), eq-eqb _ _ (five .if5 .left), eq-eqb _ _ (six .if6 .left)) (c .only-ignored .ensures)
 
 pub unstarted-spec : {M : Type 1} → statement M
-unstarted-spec = tie.close (tie.spec returns returns-2 returns-3 returns-4 returns-5 returns-6)
+unstarted-spec = tie.close (tie.spec returns returns-2 returns-3 returns-4 returns-5 returns-6 only-ignored-requires returns-7)

@@ -1,6 +1,7 @@
 -- `load::frame` meets its contract.
 use Prim.Native.Nat.{ℕ, _+_, _≤_}
 use mathlib.Core.Path.{_≡_, sym, ap, _∙_}
+use mathlib.Core.Bool.{true}
 use mathlib.Core.List.{List}
 use native.Mathlib.Omega.{arith}
 use borrow.Author.Needs.{needs}
@@ -11,11 +12,13 @@ use Rattle.message.specs.Read.{fields}
 use Rattle.directory.specs.Directory.{addresses}
 use Rattle.step.specs.Step.{Act, gives, Leaves}
 use Rattle.step.specs.Laws.{frame-call-refused, frame-refused, frame-accepted}
+use Rattle.counts.specs.Counts.{below}
 use Rattle.load_record.specs.declared.Settings.{Settings}
 use Rattle.load_record.specs.declared.Session.{Session}
 use Rattle.load_record.specs.declared.Next.{Next}
 use Rattle.load_next.specs.Next.{react}
-use Rattle.load_record.specs.Laws.{Bound}
+use Rattle.load_record.specs.Record.{tallied}
+use Rattle.load_record.specs.Laws.{Bound, tallied-bound}
 use Rattle.load_next.specs.Laws.{react-bound}
 use Rattle.load_next.specs.Inner.{ahead}
 use Rattle.load_checks.specs.declared.Ruling.{Ruling}
@@ -31,7 +34,7 @@ module _ (s : Settings) (h : Session) (file string frame reply : List ℕ) (i : 
   refused-as = says s h file string reply i e .refused
 
   abbrev reacts : Fields → Act Session Unit
-  reacts f = does s file string (react (frames s file) h f)
+  reacts f = does s file string (tallied h (react (frames s file) h f))
 
   denied : (k .refusal ≡ 0 → ⊥) → {session : Session} {answer : Written} → session ≡ h → answer ≡ refused (k .refusal)
       → Leaves (loadFrame s h file string frame reply) session answer tt reply
@@ -48,18 +51,22 @@ module _ (s : Settings) (h : Session) (file string frame reply : List ℕ) (i : 
         rw (d, g, number)
         (frame-refused (s .version) (refusal s h file string reply) frame h tt reply reacts (sym refused-as ∙ z) (λ n. ne (number ∙ n)))
 
-    -- the segment found is the one that may go out
-    module _ (at : h .position ≤ addresses + 1 → i ≡ ahead h) {n : Next} (d : n ≡ react (k .many) h f) where
-      bound : Bound (k .many) i h n
+    -- the segment found is the one that may go out, and the frame is counted
+    module _ (at : h .position ≤ addresses + 1 → i ≡ ahead h) {n t : Next} (d : n ≡ react (k .many) h f) (c : below (h .counts) ≡ true → t ≡ tallied h n) where
+      counted : t ≡ tallied h (react (k .many) h f)
+      counted = c (facts s h file string reply i e z .below-top) ∙ ap (tallied h) d
+
+      bound : Bound (k .many) i h t
       bound =
           let a = facts s h file string reply i e z in
-          rw (at (omega (arith, a .fits .reached, a .few)), d) (react-bound (k .many) h (goes s h file string reply i e z) f)
+          let b = react-bound (k .many) h (goes s h file string reply i e z) f in
+          rw (at (omega (arith, a .fits .reached, a .few)), counted) (tallied-bound (k .many) h (ahead h) (react (k .many) h f) b)
 
-      does-next : f .refusal ≡ 0 → {session : Session} {answer : Written} {out : List ℕ} → Leaves (gives (acting s file string k n) reply) session answer tt out
+      does-next : f .refusal ≡ 0 → {session : Session} {answer : Written} {out : List ℕ} → Leaves (gives (acting s file string k t) reply) session answer tt out
           → Leaves (loadFrame s h file string frame reply) session answer tt out
       does-next w l =
           frame-accepted (s .version) (refusal s h file string reply) frame h tt reply reacts (sym refused-as ∙ z) (sym number ∙ w)
-          (given s h file string reply i e z n bound (rw (says s h file string reply i e .counted z, r) at d) l)
+          (given s h file string reply i e z t bound (rw (says s h file string reply i e .counted z, r) at counted) l)
 
 ahead-requires : tie.Need-ahead-requires
 ahead-requires c κs = search needs
@@ -101,26 +108,32 @@ returns-2 c =
 react-requires : tie.Need-react-requires
 react-requires c κs = search needs
 
+tallied-requires : tie.Need-tallied-requires
+tallied-requires c κs = search needs
+
 give-requires : tie.Need-give-requires
 give-requires c κs =
-    let reading = c .before .before .before .before in
+    let reacted = c .before .before in
+    let reading = reacted .before .before .before in
     let ruled = reading .before .before .before in
     let a = ruled .before .before .before .before .before .before .before .args in
     let z = reading .before .if1 .left in
-    ready (a .settings) (a .session) (a .file .now) (a .parameters .now) (a .reply .now) _ (ruled .rule .ensures) z (c .before .react .result)
-    (bound (a .settings) (a .session) (a .file .now) (a .parameters .now) (a .frame .now) (a .reply .now) _ (ruled .rule .ensures) z (reading .read .ensures) (ruled .before .ahead .ensures) (c .before .react .ensures))
+    ready (a .settings) (a .session) (a .file .now) (a .parameters .now) (a .reply .now) _ (ruled .rule .ensures) z (c .before .tallied .result)
+    (bound (a .settings) (a .session) (a .file .now) (a .parameters .now) (a .frame .now) (a .reply .now) _ (ruled .rule .ensures) z (reading .read .ensures) (ruled .before .ahead .ensures)
+    (reacted .react .ensures) (c .before .tallied .ensures .0))
 
 same-length-3 : tie.Need-same-length-3
 same-length-3 c = search needs
 
 returns-3 : tie.Need-returns-3
 returns-3 c =
-    let reacted = c .before .before .before .before in
+    let counting = c .before .before .before .before in
+    let reacted = counting .before in
     let reading = reacted .before .before .before in
     let ruled = reading .before .before .before in
     let a = ruled .before .before .before .before .before .before .before .args in
     does-next (a .settings) (a .session) (a .file .now) (a .parameters .now) (a .frame .now) (a .reply .now) _ (ruled .rule .ensures) (reading .before .if1 .left) (reading .read .ensures)
-    (ruled .before .ahead .ensures) (reacted .react .ensures) (reacted .before .if2 .left) (c .before .before .give .ensures)
+    (ruled .before .ahead .ensures) (reacted .react .ensures) (counting .tallied .ensures .0) (reacted .before .if2 .left) (c .before .before .give .ensures)
 
 pub frame-spec : {M : Type 1} → statement M
 frame-spec =
@@ -136,6 +149,7 @@ frame-spec =
     same-length-2
     returns-2
     react-requires
+    tallied-requires
     give-requires
     same-length-3
     returns-3)
