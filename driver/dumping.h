@@ -42,6 +42,9 @@ typedef struct dumping {
 /* The bytes of the range that a copy has. */
 uint64_t dumping_came(const dumping *d, const copy *c);
 
+/* What a copy's session sent and counted, in sentences. */
+void dumping_counts(const copy *c, FILE *out);
+
 /* What is to be told besides the verdict, in sentences. */
 void dumping_doubts(const dumping *d, int status, FILE *out);
 

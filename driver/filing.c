@@ -250,8 +250,10 @@ static bool equal(dumping *d)
 int filing_conclude(dumping *d, int status)
 {
     words_bar_end();
-    if (d->settings.length != 0)
+    if (d->settings.length != 0) {
         dump_words(stdout, &d->now->session, &d->settings);
+        dumping_counts(d->now, stdout);
+    }
     bool whole = status == 0 && (d->settings.length == 0 || d->now->session.verdict == MOP_DUMP_FINISHED);
     if (whole && d->twice && !equal(d))
         status = STATUS_DIFFERENT;

@@ -72,7 +72,9 @@ static int volunteer(host *h, const line_frame *frame)
     return line_send(&h->line, frame->from, offer, written.length);
 }
 
-/* Once the machine has answered, its requests go unheard. */
+/* Once the machine has answered, its requests to all hosts go unheard. What comes
+ * before the session begins and does not begin it is dropped: the library would
+ * count it, and the counts are to be of the machine that is served. */
 static int take(host *h, line_frame *frame)
 {
     if (h->named && memcmp(frame->from, h->machine, ADDRESS_LENGTH) != 0)
@@ -150,7 +152,8 @@ static void tell(const char *what, const direction *d)
 void host_close(host *h)
 {
     if (h->unreadable != 0)
-        printf("%" PRIu64 " unreadable frames came and were ignored.\n", h->unreadable);
+        printf("%" PRIu64 " unreadable frame%s came and %s not counted.\n", h->unreadable,
+            h->unreadable == 1 ? "" : "s", h->unreadable == 1 ? "was" : "were");
     tell("sent", &h->line.out);
     tell("received", &h->line.in);
     line_close(&h->line);

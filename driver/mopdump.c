@@ -94,10 +94,10 @@ static const char manual[] = "NAME\n"
                              "  The bytes go to FILE.part as they come; it is named FILE only when the\n"
                              "  dump is finished and on the disk. If it is not finished there is no FILE,\n"
                              "  and what came stays in FILE.part, however the program ended. FILE.record\n"
-                             "  tells in either case what happened: the verdict, the session's numbers,\n"
-                             "  the range, the date, the SHA-256 of the file. It is there from the\n"
-                             "  beginning; of a program that was killed it says that FILE.part has as many\n"
-                             "  bytes as came. If nothing came no file is left.\n"
+                             "  tells in either case what happened: the verdict, the session's numbers and\n"
+                             "  counts (THE LINE, below), the range, the date, the SHA-256 of the file. It\n"
+                             "  is there from the beginning; of a program that was killed it says that\n"
+                             "  FILE.part has as many bytes as came. If nothing came no file is left.\n"
                              "\n"
                              "  FILE, FILE.part and FILE.record must not be there: a dump replaces no\n"
                              "  file. Room for the whole dump is taken before the machine is asked.\n"
@@ -134,6 +134,7 @@ static void help(void)
 {
     fputs(manual, stdout);
     common_help(stdout, "a machine's offer");
+    counts_help(stdout);
     words_statuses(stdout, STATUS_FINISHED, STATUS_OTHER);
     words_statuses(stdout, STATUS_GIVEN_UP, STATUS_GIVEN_UP);
     words_statuses(stdout, STATUS_SILENT, STATUS_DIFFERENT);
@@ -221,6 +222,7 @@ static int sessions(host *h, dumping *d)
     if (status != 0 || !d->twice || d->now->session.verdict != MOP_DUMP_FINISHED)
         return status;
     words_bar_end();
+    dumping_counts(d->now, stdout);
     printf("Dumped once. Now have the machine offer its memory the second time.\n");
     d->now = &d->copies[1];
     progress_start(&d->progress, "bytes", d->range.length);

@@ -212,6 +212,7 @@ static void help(void)
     fputs(manual, stdout);
     fputs(parameters_manual, stdout);
     common_help(stdout, "a machine's request");
+    counts_help(stdout);
     words_statuses(stdout, STATUS_FINISHED, STATUS_SHARED);
     words_statuses(stdout, STATUS_RESET, STATUS_IN_USE);
     fputs("\n"
@@ -293,7 +294,15 @@ static void tell_rejected(const loading *l)
         image_region(&l->file, l->image, segment.address));
 }
 
-/* What the machine's memory holds, and the status of it. */
+/* The frames sent without those that went out for the first time: one for each
+ * that was answered, and the one on its way. */
+static uint64_t repeats_of(const mop_load *session)
+{
+    const uint64_t on_its_way = session->verdict != MOP_LOAD_FINISHED;
+    return session->waiting ? 0 : session->sent - session->position - on_its_way;
+}
+
+/* What the machine's memory holds, how the line was, and the status of it. */
 static int conclude(const loading *l, int status)
 {
     words_bar_end();
@@ -304,7 +313,7 @@ static int conclude(const loading *l, int status)
     tell_rejected(l);
     if (l->resets > 0)
         load_reset_words(stdout, l->resets, l->session.verdict == MOP_LOAD_UNCONFIRMED && !l->early);
-    printf("%" PRIu64 " frames were sent by the session.\n", l->session.sent);
+    counts_words(stdout, "load", l->session.sent, repeats_of(&l->session), &l->session.counts);
     if (status != 0)
         return status;
     return l->resets > 0 && l->session.verdict == MOP_LOAD_FINISHED ? STATUS_RESET : verdict_status(l->session.verdict);

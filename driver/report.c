@@ -14,6 +14,20 @@ uint64_t dumping_came(const dumping *d, const copy *c)
     return d->before + c->session.filled;
 }
 
+/* The frames sent without those that went out for the first time: a request for
+ * each reply, and the request on its way or the end of the dump, which one that
+ * is given up has beside. */
+static uint64_t repeats_of(const mop_dump *session)
+{
+    const uint64_t end = session->verdict == MOP_DUMP_GIVEN_UP;
+    return session->waiting ? 0 : session->sent - session->replies - 1 - end;
+}
+
+void dumping_counts(const copy *c, FILE *out)
+{
+    counts_words(out, "dump", c->session.sent, repeats_of(&c->session), &c->session.counts);
+}
+
 void report_range(const dumping *d, FILE *out)
 {
     fprintf(out, "range: from 0x%08" PRIX32 ", length %" PRIu64, d->range.address, d->range.length);
@@ -47,10 +61,14 @@ static void write_head(const dumping *d, const char *how, FILE *out)
 
 static void write_session(const copy *c, const char *which, FILE *out)
 {
+    const mop_counts *counts = &c->session.counts;
     fprintf(out,
         "%ssession: verdict %d (%s), filled %" PRIu64 ", replies %" PRIu64 ", sent %" PRIu64 ", repeats %" PRIu32 "\n",
         which, c->session.verdict, verdict_words(c->session.verdict), c->session.filled, c->session.replies,
         c->session.sent, c->session.repeats);
+    fprintf(out, "%scounts: starts %" PRIu64 ", advances %" PRIu64 ", ignored %" PRIu64 ", rejections %" PRIu64 "\n",
+        which, counts->starts, counts->advances, counts->ignored, counts->rejections);
+    fprintf(out, "%srepeated: %" PRIu64 " of the frames sent\n", which, repeats_of(&c->session));
     fprintf(out, "%soffers: %" PRIu64 " after the first answer\n", which, c->offers);
 }
 

@@ -350,3 +350,58 @@ void dump_words(FILE *out, const mop_dump *session, const mop_dump_settings *set
             session->waiting ? "Not begun" : "Broken off", session->filled, settings->length);
     }
 }
+
+/* ---- Counts ---------------------------------------------------------- */
+
+/* 0 if nothing was counted, and otherwise no less than any count. */
+static uint64_t bound_of(const mop_counts *c)
+{
+    return c->starts | c->advances | c->ignored | c->rejections;
+}
+
+/* How many of the frames counted, one at least, moved nothing: in tenths of a percent, rounded. Counts so large that a
+ * sum or a product might not fit go without their last 12 bits. */
+static uint64_t share_of_ignored(const mop_counts *c)
+{
+    const int less = bound_of(c) >> 52 == 0 ? 0 : 12;
+    const uint64_t ignored = c->ignored >> less;
+    const uint64_t all = (c->starts >> less) + (c->advances >> less) + ignored + (c->rejections >> less);
+    return (1000 * ignored + all / 2) / all;
+}
+
+void counts_words(FILE *out, const char *job, uint64_t sent, uint64_t repeats, const mop_counts *counts)
+{
+    fprintf(out, "Frames sent by the session: %" PRIu64 ", repeats among them: %" PRIu64 ".\n", sent, repeats);
+    if (bound_of(counts) == 0) {
+        fputs("Frames counted: none.\n", out);
+        return;
+    }
+    const uint64_t share = share_of_ignored(counts);
+    fprintf(out,
+        "Frames counted: %" PRIu64 " started the %s, %" PRIu64 " moved it on, %" PRIu64 " moved nothing (%" PRIu64
+        ".%" PRIu64 " %% of all), %" PRIu64 " rejected it.\n",
+        counts->starts, job, counts->advances, counts->ignored, share / 10, share % 10, counts->rejections);
+}
+
+void counts_help(FILE *out)
+{
+    fputs("THE LINE\n"
+          "  The end of the output tells how the line was: compare it with that of like\n"
+          "  runs over other cables. A repeat was sent because no answer came in the time\n"
+          "  of --timer: the frame or its answer was lost, or the answer was late. (When\n"
+          "  a session ends in silence, R repeats are those of its last frame.) What was\n"
+          "  lost shows in no other number.\n"
+          "\n"
+          "  Counted are the frames that could be read and came to this host alone from\n"
+          "  the machine, from the one that began the session on until its end. One that\n"
+          "  moved nothing (ignored, in a dump's record) was late, came twice, or was of\n"
+          "  no use, such as a request or an offer made again. The answer to a repeat\n"
+          "  that was not needed is one of them. So:\n"
+          "\n"
+          "    repeats  moved nothing\n"
+          "    many     few            frames are lost: suspect the cable and its plugs\n"
+          "    many     as many        answers are late: give a longer --timer\n"
+          "    few      many           frames come twice, or the machine sends unasked\n"
+          "\n",
+        out);
+}

@@ -65,4 +65,11 @@ void load_reset_words(FILE *out, uint64_t resets, bool perhaps_started);
 void dump_shared_words(FILE *out);
 void dump_offers_words(FILE *out, uint64_t offers);
 
+/* The frames that a session sent, the repeats among them, and what the frames
+ * came to that it counted, in sentences. The job is load or dump. */
+void counts_words(FILE *out, const char *job, uint64_t sent, uint64_t repeats, const mop_counts *counts);
+
+/* What these tell of the line, for --help. */
+void counts_help(FILE *out);
+
 #endif

@@ -136,6 +136,16 @@ static void dump_step(mop_dump *session, uint8_t *buffer, size_t size)
                                      buffer, size, reply, sizeof reply));
 }
 
+/* What the frames came to that the host was handed. One that was lost is not
+ * among them: it shows in the frames sent. */
+static void print_counts(mop_counts counts)
+{
+    printf("counts: %d started it, %d moved it on, %d were ignored, %d "
+           "rejected it\n\n",
+        (int)counts.starts, (int)counts.advances, (int)counts.ignored,
+        (int)counts.rejections);
+}
+
 /* ---- An image file of one region: its bytes, the directory, the trailer. */
 
 enum { BYTES = 180, ADDRESS = 0x20, FILE_LENGTH = BYTES + 12 + 16 };
@@ -171,8 +181,9 @@ int main(void)
         machine_step();
     }
     const mop_value name = machine.parameters.target_name;
-    printf("load: verdict %d, %d frames sent, the machine's name is %.*s\n\n",
+    printf("load: verdict %d, %d frames sent, the machine's name is %.*s\n",
         load.verdict, (int)load.sent, name.length, (const char *)name.bytes);
+    print_counts(load.counts);
 
     machine_does(mop_machine_start_dump(
         ours, memory, sizeof memory, reply, sizeof reply));
@@ -180,8 +191,8 @@ int main(void)
         dump_step(&dump, buffer, sizeof buffer);
         machine_step();
     }
-    printf(
-        "dump: verdict %d, %d frames sent\n\n", dump.verdict, (int)dump.sent);
+    printf("dump: verdict %d, %d frames sent\n", dump.verdict, (int)dump.sent);
+    print_counts(dump.counts);
 
     const int same = memcmp(buffer, memory, sizeof memory) == 0 &&
                      memcmp(buffer + ADDRESS, file, BYTES) == 0;

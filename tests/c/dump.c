@@ -40,6 +40,8 @@ static bool is_bad(const mop_dump *h, const mop_dump_settings *s)
         return true;
     if (h->repeats > s->repeats || h->filled > s->length)
         return true;
+    if (bad_counts(h->counts, h->waiting))
+        return true;
     if (h->replies > h->filled)
         return true;
     if (h->sent > (h->replies + 1) * ((uint64_t)s->repeats + 1) + 1)
@@ -99,11 +101,30 @@ static mop_dump_step make_call(const input *in)
         lent_out(&reply), in->room);
 }
 
-static bool same(mop_dump a, mop_dump b)
+static bool same_but_counts(mop_dump a, mop_dump b)
 {
     return a.filled == b.filled && a.replies == b.replies && a.sent == b.sent &&
            a.repeats == b.repeats && a.waiting == b.waiting &&
            a.verdict == b.verdict;
+}
+
+static bool same(mop_dump a, mop_dump b)
+{
+    return same_but_counts(a, b) && same_counts(a.counts, b.counts);
+}
+
+/* A frame that can be read is counted while the dump runs, and nothing else.
+ * None rejects a dump. */
+static void check_counts(
+    const input *in, unsigned refusal, const mop_dump *after)
+{
+    const mop_dump *h = &in->session;
+    mop_counts counts = h->counts;
+    if (!is_timer(in) && refusal == MOP_ACCEPTED &&
+        h->verdict == MOP_DUMP_RUNNING)
+        counts = count_frame(counts, h->waiting > after->waiting,
+            after->filled > h->filled, false);
+    demand(same_counts(after->counts, counts), "other counts");
 }
 
 /* The buffer: what was filled stays, what came stands behind it, and the rest
@@ -135,7 +156,9 @@ static void check_answer(const input *in, unsigned refusal, mop_dump_step step)
         demand(same(step.session, in->session), "the record changed");
     }
     if (step.answer.length == 0 && step.session.verdict == in->session.verdict)
-        demand(same(step.session, in->session), "neither taken nor ignored");
+        demand(same_but_counts(step.session, in->session),
+            "neither taken nor ignored");
+    check_counts(in, refusal, &step.session);
     check_buffer(in, step.session);
     if (step.answer.length > 0) {
         const mop_fields f = mop_read(
@@ -213,6 +236,7 @@ static void any_record(input *in)
     h->replies = below(h->filled + 1);
     h->repeats = (uint32_t)below((uint64_t)in->settings.repeats + 1);
     h->sent = below((h->replies + 1) * (h->repeats + UINT64_C(1)) + 2);
+    h->counts = any_counts(h->waiting == 1);
     if (once_in(16))
         h->filled = hostile();
     if (once_in(16))
@@ -226,6 +250,8 @@ static void any_record(input *in)
         *h = mop_dump_start();
         called(0);
         demand(same(*h, (mop_dump){.waiting = 1}), "another start");
+        if (once_in(2))
+            h->counts = any_counts(true);
     }
 }
 
@@ -254,6 +280,78 @@ static void check_any(input *in)
     check_calls(in);
 }
 
+/* A dump of eight bytes, four at a time. */
+static void make_small(input *in)
+{
+    in->settings = (mop_dump_settings){.length = in->buffer_length = 8,
+        .request_bytes = 4,
+        .repeats = 1,
+        .version = MOP_VERSION_3_0};
+    in->frame_length = make_frame(MOP_CODE_DUMP_DATA, in->frame);
+    in->room = MOP_FRAME_MOST;
+}
+
+/* Each of the four calls answers with this refusal. */
+static void check_each(input *in, unsigned refusal)
+{
+    for (int call = DUMP_FRAME; call <= DUMP_UPDATE_TIMER; call++) {
+        in->call = (enum call)call;
+        demand(check_call(in).answer.refusal == refusal,
+            "not the refusal that this test expects");
+    }
+}
+
+/* One count at the edges. */
+static void check_edges(input *in, int which)
+{
+    make_small(in);
+    for (const edge *e = edges; e < edges + EDGES; e++) {
+        in->session = (mop_dump){
+            .sent = !e->waiting, .waiting = e->waiting, .verdict = e->verdict};
+        *count_of(&in->session.counts, which) = e->count;
+        in->room = e->room;
+        check_each(in, edge_refusal(e, which));
+    }
+}
+
+/* Frames and timers from the dump's start on. */
+static void check_counted(input *in, const counted *rows, size_t length)
+{
+    make_small(in);
+    in->session = mop_dump_start();
+    for (size_t i = 0; i < length; i++) {
+        in->call = rows[i].length > 0 ? DUMP_UPDATE_FRAME : DUMP_UPDATE_TIMER;
+        in->frame_length = rows[i].length;
+        memcpy(in->frame, rows[i].frame, rows[i].length);
+        in->session = check_call(in).session;
+        demand(same_counts(in->session.counts, rows[i].after),
+            "not the counts that this test expects");
+    }
+}
+
+static void test_counts(input *in)
+{
+    static const counted finished[] = {
+        {{14, 0, 0, 0, 0, 1}, 6, {0, 0, 1, 0}}, /* before it begins */
+        {{0}, 0, {0, 0, 1, 0}},
+        {{12, 0, 1, 8, 0, 0, 0, 0}, 8, {1, 0, 1, 0}},
+        {{12, 0, 1, 8, 0, 0, 0, 0}, 8, {1, 0, 2, 0}},
+        {{0}, 0, {1, 0, 2, 0}},
+        {{14, 0, 0}, 3, {1, 0, 2, 0}}, /* too short */
+        {{14, 0, 0, 0, 0, 1, 2, 3}, 8, {1, 1, 2, 0}},
+        {{14, 0, 0, 0, 0, 1, 2, 3}, 8, {1, 1, 3, 0}},
+        {{10, 1, 1}, 3, {1, 1, 4, 0}}, /* what would reject a load */
+        {{14, 3, 0, 0, 0, 4, 5, 6}, 8, {1, 2, 4, 0}},
+        {{14, 6, 0, 0, 0, 7, 8}, 7, {1, 3, 4, 0}},
+        {{14, 6, 0, 0, 0, 7, 8}, 7, {1, 3, 4, 0}}, /* after the verdict */
+        {{0}, 0, {1, 3, 4, 0}},
+    };
+    for (int which = 0; which < COUNTS; which++)
+        check_edges(in, which);
+    check_counted(in, finished, sizeof finished / sizeof finished[0]);
+    demand(in->session.verdict == MOP_DUMP_FINISHED, "not finished");
+}
+
 void test_dump(void)
 {
     static input in;
@@ -276,6 +374,7 @@ void test_dump(void)
         in.buffer_length = below(once_in(4) ? 4 * BEYOND : 60);
         check_any(&in);
     }
+    test_counts(&in);
     for (int version = 0; version <= UINT8_MAX; version++) {
         in.settings = (mop_dump_settings){.length = in.buffer_length = 8,
             .request_bytes = 8,

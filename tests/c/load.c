@@ -25,7 +25,7 @@ static bool is_bad(const load_input *in)
         return true;
     if (h->verdict > MOP_LOAD_UNCONFIRMED || h->waiting > 1)
         return true;
-    if (h->repeats > in->settings.repeats)
+    if (h->repeats > in->settings.repeats || bad_counts(h->counts, h->waiting))
         return true;
     return h->waiting == 1 && (h->position != 0 || h->sent != 0 ||
                                   h->repeats != 0 || h->verdict != 0);
@@ -106,11 +106,29 @@ static mop_load_step make_call(const load_input *in)
         lent_in(&frame), in->frame_length, lent_out(&reply), in->room);
 }
 
-static bool same(mop_load a, mop_load b)
+static bool same_but_counts(mop_load a, mop_load b)
 {
     return a.position == b.position && a.sent == b.sent &&
            a.repeats == b.repeats && a.waiting == b.waiting &&
            a.verdict == b.verdict;
+}
+
+static bool same(mop_load a, mop_load b)
+{
+    return same_but_counts(a, b) && same_counts(a.counts, b.counts);
+}
+
+/* A frame that can be read is counted while the load runs, and nothing else. */
+static void check_counts(
+    const load_input *in, unsigned refusal, const mop_load *after)
+{
+    const mop_load *h = &in->session;
+    mop_counts counts = h->counts;
+    if (!is_timer(in) && refusal == MOP_ACCEPTED &&
+        h->verdict == MOP_LOAD_RUNNING)
+        counts = count_frame(counts, h->waiting > after->waiting,
+            after->position > h->position, after->verdict == MOP_LOAD_REJECTED);
+    demand(same_counts(after->counts, counts), "other counts");
 }
 
 /* The frame that stands in reply is the load's at this position. */
@@ -144,7 +162,9 @@ static void check_answer(
         demand(same(step.session, in->session), "the record changed");
     }
     if (step.answer.length == 0 && step.session.verdict == in->session.verdict)
-        demand(same(step.session, in->session), "neither taken nor ignored");
+        demand(same_but_counts(step.session, in->session),
+            "neither taken nor ignored");
+    check_counts(in, refusal, &step.session);
     if (step.answer.length > 0) {
         check_frame(in, step.session.position, step.answer.length);
         demand(step.session.sent == in->session.sent + 1, "another count");
@@ -173,6 +193,15 @@ mop_load_step load_check(const load_input *in)
                steps[0].answer.length == steps[1].answer.length,
         "two answers to one call");
     return steps[0];
+}
+
+void load_each(load_input *in, unsigned refusal)
+{
+    for (int call = LOAD_FRAME; call <= LOAD_UPDATE_TIMER; call++) {
+        in->call = (enum call)call;
+        demand(load_check(in).answer.refusal == refusal,
+            "not the refusal that this test expects");
+    }
 }
 
 /* The same input by value and in place: the same answer. */
@@ -227,6 +256,7 @@ static void any_record(load_input *in, uint64_t n)
     h->position = h->verdict == MOP_LOAD_FINISHED ? n : below(n + 1);
     h->repeats = (uint32_t)below(r);
     h->sent = n == 0 ? 0 : below(n * r + 1);
+    h->counts = any_counts(h->waiting == 1);
     if (once_in(8))
         h->position = hostile();
     if (once_in(8))
@@ -238,6 +268,8 @@ static void any_record(load_input *in, uint64_t n)
         *h = mop_load_start();
         called(0);
         demand(same(*h, (mop_load){.waiting = 1}), "another start");
+        if (once_in(2))
+            h->counts = any_counts(true);
     }
 }
 
@@ -266,6 +298,76 @@ static void check_any(load_input *in)
     check_calls(in);
 }
 
+/* A load of two segments. */
+static void make_small(load_input *in)
+{
+    in->file_length = make_one_region(in->file, 2);
+    in->settings = (mop_load_settings){
+        .segment_size = 1, .repeats = 1, .version = MOP_VERSION_3_0};
+    in->frame_length = make_frame(MOP_CODE_REQUEST_LOAD, in->frame);
+    in->room = MOP_FRAME_MOST;
+}
+
+/* One count at the edges. */
+static void check_edges(load_input *in, int which)
+{
+    make_small(in);
+    for (const edge *e = edges; e < edges + EDGES; e++) {
+        in->session = (mop_load){
+            .sent = !e->waiting, .waiting = e->waiting, .verdict = e->verdict};
+        *count_of(&in->session.counts, which) = e->count;
+        in->room = e->room;
+        load_each(in, edge_refusal(e, which));
+    }
+}
+
+/* Frames and timers from the load's start on. */
+static void check_counted(load_input *in, const counted *rows, size_t length)
+{
+    make_small(in);
+    in->session = mop_load_start();
+    for (size_t i = 0; i < length; i++) {
+        in->call = rows[i].length > 0 ? LOAD_UPDATE_FRAME : LOAD_UPDATE_TIMER;
+        in->frame_length = rows[i].length;
+        memcpy(in->frame, rows[i].frame, rows[i].length);
+        in->session = load_check(in).session;
+        demand(same_counts(in->session.counts, rows[i].after),
+            "not the counts that this test expects");
+    }
+}
+
+static void test_counts(load_input *in)
+{
+    static const counted finished[] = {
+        {{10, 1, 0}, 3, {0, 0, 1, 0}},         /* before it begins */
+        {{8, 0, 1, 1, 0, 0}, 6, {0, 0, 2, 0}}, /* another program type */
+        {{0}, 0, {0, 0, 2, 0}},
+        {{8, 0, 1, 2, 0, 0}, 6, {1, 0, 2, 0}},
+        {{8, 0, 1, 2, 0, 0}, 6, {1, 0, 3, 0}},
+        {{0}, 0, {1, 0, 3, 0}},
+        {{10, 1}, 2, {1, 0, 3, 0}}, /* too short */
+        {{10, 1, 0}, 3, {1, 1, 3, 0}},
+        {{10, 1, 0}, 3, {1, 1, 4, 0}},
+        {{10, 3, 1}, 3, {1, 1, 5, 0}},
+        {{10, 2, 0}, 3, {1, 2, 5, 0}},
+        {{10, 2, 0}, 3, {1, 2, 5, 0}}, /* after the verdict */
+        {{0}, 0, {1, 2, 5, 0}},
+    };
+    static const counted rejected[] = {
+        {{8, 0, 1, 2, 0, 0}, 6, {1, 0, 0, 0}},
+        {{10, 1, 0}, 3, {1, 1, 0, 0}},
+        {{10, 1, 1}, 3, {1, 1, 1, 0}},
+        {{10, 2, 1}, 3, {1, 1, 1, 1}},
+        {{10, 2, 1}, 3, {1, 1, 1, 1}},
+    };
+    for (int which = 0; which < COUNTS; which++)
+        check_edges(in, which);
+    check_counted(in, finished, sizeof finished / sizeof finished[0]);
+    demand(in->session.verdict == MOP_LOAD_FINISHED, "not finished");
+    check_counted(in, rejected, sizeof rejected / sizeof rejected[0]);
+    demand(in->session.verdict == MOP_LOAD_REJECTED, "not rejected");
+}
+
 void test_load(void)
 {
     static load_input in;
@@ -290,4 +392,5 @@ void test_load(void)
         in.file_length = once_in(8) ? any_image(in.file) : make_image(in.file);
         check_any(&in);
     }
+    test_counts(&in);
 }

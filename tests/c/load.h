@@ -29,4 +29,7 @@ unsigned load_refusal(const load_input *in);
 /* The call, with every lent buffer on both sides of a guard; what it gives. */
 mop_load_step load_check(const load_input *in);
 
+/* Each of the four calls answers with this refusal. */
+void load_each(load_input *in, unsigned refusal);
+
 #endif

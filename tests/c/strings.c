@@ -28,11 +28,7 @@ static void give(const uint8_t *entries, size_t length)
 /* Each of the four calls answers with this refusal. */
 static void check_each(unsigned refusal)
 {
-    for (int call = LOAD_FRAME; call <= LOAD_UPDATE_TIMER; call++) {
-        in.call = (enum call)call;
-        demand(load_check(&in).answer.refusal == refusal,
-            "not the refusal that this test expects");
-    }
+    load_each(&in, refusal);
 }
 
 /* The string's refusal comes before the frame's, with any good record; and
@@ -180,6 +176,9 @@ static void check_whole(size_t n, uint8_t with)
     demand(
         in.session.verdict == MOP_LOAD_FINISHED && in.session.sent == n + with,
         "a load that is not finished");
+    demand(same_counts(in.session.counts,
+               (mop_counts){.starts = 1, .advances = n + with}),
+        "a load that is not counted");
 }
 
 /* Silence at a position, without repeats: the load's verdict. */

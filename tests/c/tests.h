@@ -2,6 +2,8 @@
 #ifndef TESTS_H
 #define TESTS_H
 
+#include <stdbool.h>
+
 #include "lent.h"
 #include "mop.h"
 
@@ -28,5 +30,42 @@ size_t any_room(void);
 /* A step's answer: this refusal, a frame's length or, if refused, 0, and all
  * else in the reply buffer as it was. */
 void check_written(mop_written answer, unsigned refusal, const lent *reply);
+
+/* ---- The counts of a load and of a dump. */
+
+enum { STARTS, ADVANCES, IGNORED, REJECTIONS, COUNTS };
+
+/* One of them, and whether two are the same. */
+uint64_t *count_of(mop_counts *counts, int which);
+bool same_counts(mop_counts a, mop_counts b);
+
+/* Whether they make a record bad, and any counts of a record that mostly don't. */
+bool bad_counts(mop_counts counts, uint8_t waiting);
+mop_counts any_counts(bool waits);
+
+/* What a frame makes of them that is counted, the first of these that it did. */
+mop_counts count_frame(
+    mop_counts counts, bool started, bool moved, bool rejected);
+
+/* Records with one count at an edge of what a step takes, or waiting with it,
+ * and the refusal of such a call: with a verdict too, and before the reply
+ * buffer's. Which count it is matters to a record that waits. */
+typedef struct edge {
+    uint8_t waiting;
+    uint8_t verdict;
+    uint64_t count;
+    size_t room;
+    unsigned refusal;
+} edge;
+enum { EDGES = 9 };
+extern const edge edges[EDGES];
+unsigned edge_refusal(const edge *e, int which);
+
+/* A frame, or where the length is 0 a timer, and the counts after it. */
+typedef struct counted {
+    uint8_t frame[8];
+    size_t length;
+    mop_counts after;
+} counted;
 
 #endif

@@ -59,6 +59,37 @@ mop_written WRAP(mop_dump_update_timer)(
 #define REAL_TIMER                                                             \
     REAL(mop_machine_timer)(settings, machine, memory, size, reply, room)
 
+/* The same of a load and of a dump. */
+#define WRONG_LOAD_FRAME                                                       \
+    mop_written WRAP(mop_load_update_frame)(mop_load_settings settings,        \
+        mop_load *const session, const uint8_t *file, size_t size,             \
+        const uint8_t *string, size_t string_length, const uint8_t *frame,     \
+        size_t length, uint8_t *reply, size_t room)
+#define REAL_LOAD_FRAME                                                        \
+    REAL(mop_load_update_frame)                                                \
+    (settings, session, file, size, string, string_length, frame, length,      \
+        reply, room)
+#define WRONG_LOAD_TIMER                                                       \
+    mop_load_step WRAP(mop_load_timer)(mop_load_settings settings,             \
+        mop_load session, const uint8_t *file, size_t size,                    \
+        const uint8_t *string, size_t length, uint8_t *reply, size_t room)
+#define REAL_LOAD_TIMER                                                        \
+    REAL(mop_load_timer)                                                       \
+    (settings, session, file, size, string, length, reply, room)
+#define WRONG_DUMP_FRAME                                                       \
+    mop_dump_step WRAP(mop_dump_frame)(mop_dump_settings settings,             \
+        mop_dump session, const uint8_t *frame, size_t length,                 \
+        uint8_t *buffer, size_t size, uint8_t *reply, size_t room)
+#define REAL_DUMP_FRAME                                                        \
+    REAL(mop_dump_frame)                                                       \
+    (settings, session, frame, length, buffer, size, reply, room)
+#define WRONG_DUMP_TIMER                                                       \
+    mop_written WRAP(mop_dump_update_timer)(mop_dump_settings settings,        \
+        mop_dump *const session, const uint8_t *buffer, size_t size,           \
+        uint8_t *reply, size_t room)
+#define REAL_DUMP_TIMER                                                        \
+    REAL(mop_dump_update_timer)(settings, session, buffer, size, reply, room)
+
 #if WRONG >= 22
 #define ADDRESSES (UINT64_C(1) << 32)
 
@@ -174,67 +205,48 @@ WRONG_FRAME
     return step;
 }
 #elif WRONG == 10 /* keeps a count between calls */
-mop_load_step WRAP(mop_load_timer)(mop_load_settings settings, mop_load session,
-    const uint8_t *file, size_t size, const uint8_t *string, size_t length,
-    uint8_t *reply, size_t room)
+WRONG_LOAD_TIMER
 {
     static unsigned calls;
-    mop_load_step step = REAL(mop_load_timer)(
-        settings, session, file, size, string, length, reply, room);
+    mop_load_step step = REAL_LOAD_TIMER;
     step.session.repeats += calls++ % 1000 == 999;
     return step;
 }
 #elif WRONG == 11 /* refuses in another order: 9 before 10 */
-mop_load_step WRAP(mop_load_timer)(mop_load_settings settings, mop_load session,
-    const uint8_t *file, size_t size, const uint8_t *string, size_t length,
-    uint8_t *reply, size_t room)
+WRONG_LOAD_TIMER
 {
-    mop_load_step step = REAL(mop_load_timer)(
-        settings, session, file, size, string, length, reply, room);
+    mop_load_step step = REAL_LOAD_TIMER;
     if (room < MOP_FRAME_MOST)
         step.answer.refusal = MOP_REFUSED_ROOM;
     return step;
 }
 #elif WRONG == 12 /* clears the rest of the dump buffer */
-mop_dump_step WRAP(mop_dump_frame)(mop_dump_settings settings, mop_dump session,
-    const uint8_t *frame, size_t length, uint8_t *buffer, size_t size,
-    uint8_t *reply, size_t room)
+WRONG_DUMP_FRAME
 {
-    const mop_dump_step step = REAL(mop_dump_frame)(
-        settings, session, frame, length, buffer, size, reply, room);
+    const mop_dump_step step = REAL_DUMP_FRAME;
     for (uint64_t i = step.session.filled; i < size; i++)
         if (step.session.filled > session.filled)
             buffer[i] = 0;
     return step;
 }
 #elif WRONG == 13 /* counts a frame that it refuses */
-mop_written WRAP(mop_load_update_frame)(mop_load_settings settings,
-    mop_load *session, const uint8_t *file, size_t size, const uint8_t *string,
-    size_t string_length, const uint8_t *frame, size_t length, uint8_t *reply,
-    size_t room)
+WRONG_LOAD_FRAME
 {
-    const mop_written answer = REAL(mop_load_update_frame)(settings, session,
-        file, size, string, string_length, frame, length, reply, room);
+    const mop_written answer = REAL_LOAD_FRAME;
     session->sent += answer.refusal != 0;
     return answer;
 }
 #elif WRONG == 14 /* looks at the byte behind the dump buffer */
-mop_written WRAP(mop_dump_update_timer)(mop_dump_settings settings,
-    mop_dump *session, const uint8_t *buffer, size_t size, uint8_t *reply,
-    size_t room)
+WRONG_DUMP_TIMER
 {
     (void)*(volatile const uint8_t *)(buffer + size);
-    return REAL(mop_dump_update_timer)(
-        settings, session, buffer, size, reply, room);
+    return REAL_DUMP_TIMER;
 }
 #elif WRONG == 15 /* leaves the record as it was */
-mop_written WRAP(mop_dump_update_timer)(mop_dump_settings settings,
-    mop_dump *session, const uint8_t *buffer, size_t size, uint8_t *reply,
-    size_t room)
+WRONG_DUMP_TIMER
 {
     const mop_dump before = *session;
-    const mop_written answer = REAL(mop_dump_update_timer)(
-        settings, session, buffer, size, reply, room);
+    const mop_written answer = REAL_DUMP_TIMER;
     *session = before;
     return answer;
 }
@@ -247,35 +259,25 @@ WRONG_FRAME
     return step;
 }
 #elif WRONG == 17 /* looks at the byte behind the parameter string */
-mop_load_step WRAP(mop_load_timer)(mop_load_settings settings, mop_load session,
-    const uint8_t *file, size_t size, const uint8_t *string, size_t length,
-    uint8_t *reply, size_t room)
+WRONG_LOAD_TIMER
 {
     (void)*(volatile const uint8_t *)(string + length);
-    return REAL(mop_load_timer)(
-        settings, session, file, size, string, length, reply, room);
+    return REAL_LOAD_TIMER;
 }
 #elif WRONG == 18 /* judges the frame before the parameter string */
-mop_written WRAP(mop_load_update_frame)(mop_load_settings settings,
-    mop_load *session, const uint8_t *file, size_t size, const uint8_t *string,
-    size_t string_length, const uint8_t *frame, size_t length, uint8_t *reply,
-    size_t room)
+WRONG_LOAD_FRAME
 {
-    mop_written answer = REAL(mop_load_update_frame)(settings, session, file,
-        size, string, string_length, frame, length, reply, room);
+    mop_written answer = REAL_LOAD_FRAME;
     const uint8_t refusal = mop_read(settings.version, frame, length).refusal;
     if (mop_refused_frame(answer.refusal) && refusal != 0)
         answer.refusal = refusal;
     return answer;
 }
 #elif WRONG == 19 /* takes the string for one that the load has not */
-mop_load_step WRAP(mop_load_timer)(mop_load_settings settings, mop_load session,
-    const uint8_t *file, size_t size, const uint8_t *string, size_t length,
-    uint8_t *reply, size_t room)
+WRONG_LOAD_TIMER
 {
     settings.with_parameters &= (uint8_t)(length > 0 ? UINT8_MAX : 0);
-    return REAL(mop_load_timer)(
-        settings, session, file, size, string, length, reply, room);
+    return REAL_LOAD_TIMER;
 }
 #elif WRONG == 20 /* leaves the end of a longer value behind a shorter one */
 WRONG_FRAME
@@ -534,13 +536,115 @@ mop_fields WRAP(mop_read)(uint8_t version, const uint8_t *frame, size_t length)
         version == 0 ? MOP_VERSION_3_0 : version, frame, length);
 }
 #elif WRONG == 51 /* judges a load's string by version 3.0.0 */
-mop_load_step WRAP(mop_load_timer)(mop_load_settings settings, mop_load session,
-    const uint8_t *file, size_t size, const uint8_t *string, size_t length,
-    uint8_t *reply, size_t room)
+WRONG_LOAD_TIMER
 {
     if (settings.version == MOP_VERSION_2_1)
         settings.version = MOP_VERSION_3_0;
-    return REAL(mop_load_timer)(
-        settings, session, file, size, string, length, reply, room);
+    return REAL_LOAD_TIMER;
+}
+#elif WRONG == 52 /* does not count a frame that it ignores */
+WRONG_LOAD_FRAME
+{
+    const mop_load before = *session;
+    const mop_written answer = REAL_LOAD_FRAME;
+    if (answer.length == 0 && session->verdict == before.verdict)
+        session->counts = before.counts;
+    return answer;
+}
+#elif WRONG == 53 /* counts a frame after the verdict */
+WRONG_LOAD_FRAME
+{
+    const uint8_t verdict = session->verdict;
+    const mop_written answer = REAL_LOAD_FRAME;
+    session->counts.ignored += answer.refusal == 0 && verdict != 0;
+    return answer;
+}
+#elif WRONG == 54 /* counts a frame that can't be read */
+WRONG_LOAD_FRAME
+{
+    const mop_written answer = REAL_LOAD_FRAME;
+    session->counts.ignored += mop_refused_frame(answer.refusal) != 0;
+    return answer;
+}
+#elif WRONG == 55 /* counts the frame that finishes as ignored */
+WRONG_LOAD_FRAME
+{
+    const uint8_t verdict = session->verdict;
+    const mop_written answer = REAL_LOAD_FRAME;
+    if (session->verdict == MOP_LOAD_FINISHED && verdict == MOP_LOAD_RUNNING) {
+        session->counts.advances -= 1;
+        session->counts.ignored += 1;
+    }
+    return answer;
+}
+#elif WRONG == 56 /* counts a rejection as ignored too */
+WRONG_LOAD_FRAME
+{
+    const uint64_t rejections = session->counts.rejections;
+    const mop_written answer = REAL_LOAD_FRAME;
+    session->counts.ignored += session->counts.rejections != rejections;
+    return answer;
+}
+#elif WRONG == 57 /* counts a timer that gives a frame */
+WRONG_LOAD_TIMER
+{
+    mop_load_step step = REAL_LOAD_TIMER;
+    step.session.counts.advances += step.answer.length > 0;
+    return step;
+}
+#elif WRONG == 58 /* takes a count at 2^64 - 1 once there is a verdict */
+WRONG_LOAD_TIMER
+{
+    const mop_load before = session;
+    if (session.verdict != 0 && session.counts.rejections == UINT64_MAX)
+        session.counts.rejections = 0;
+    mop_load_step step = REAL_LOAD_TIMER;
+    step.session.counts.rejections = before.counts.rejections;
+    return step;
+}
+#elif WRONG == 59 /* refuses a record that waits and has ignored a frame */
+WRONG_DUMP_FRAME
+{
+    if (session.waiting == 1 && session.counts.ignored != 0)
+        settings.version = 0;
+    return REAL_DUMP_FRAME;
+}
+#elif WRONG == 60 /* counts each offer as a start */
+WRONG_DUMP_FRAME
+{
+    mop_dump_step step = REAL_DUMP_FRAME;
+    if (step.session.counts.ignored != session.counts.ignored &&
+        frame[0] == MOP_CODE_REQUEST_DUMP_SERVICE) {
+        step.session.counts = session.counts;
+        step.session.counts.starts += 1;
+    }
+    return step;
+}
+#elif WRONG == 61 /* minds a count at 2^64 - 1 after the reply buffer */
+WRONG_DUMP_TIMER
+{
+    mop_written answer = REAL_DUMP_TIMER;
+    if (room < MOP_FRAME_MOST && session->counts.advances == UINT64_MAX)
+        answer.refusal = MOP_REFUSED_ROOM;
+    return answer;
+}
+#elif WRONG == 62 /* refuses a count at 2^64 - 2 */
+WRONG_DUMP_TIMER
+{
+    mop_written answer = REAL_DUMP_TIMER;
+    if (session->counts.starts == UINT64_MAX - 1)
+        answer = (mop_written){.refusal = MOP_REFUSED_RANGE};
+    return answer;
+}
+#elif WRONG == 63 /* takes a record that waits and has started */
+WRONG_DUMP_TIMER
+{
+    const uint64_t starts = session->counts.starts;
+    if (session->waiting == 1)
+        session->counts.starts = 0;
+    const mop_written answer = REAL_DUMP_TIMER;
+    if (session->waiting == 1)
+        session->counts.starts = starts;
+    return answer;
 }
 #endif

@@ -76,6 +76,19 @@ bytes() {
     seq 1 9999999 | head -c "$1"
 }
 
+# counted LOG JOB STARTS ADVANCES REJECTIONS: what the log says that its last session counted, with the share of the frames
+# that moved nothing. Their number is left in ignored.
+counted() {
+    local said share all
+    said=$(grep '^Frames counted: ' "$1" | tail -n 1)
+    ignored=$(sed -n 's/.* moved it on, \([0-9]*\) moved nothing .*/\1/p' <<<"$said")
+    all=$(($3 + $4 + ignored + $5))
+    share=$(((2000 * ignored + all) / (2 * all))) # in tenths, rounded
+    share=$((share / 10)).$((share % 10))
+    echo "Frames counted: $3 started the $2, $4 moved it on, $ignored moved nothing ($share % of all), $5 rejected it." \
+        | diff - <(echo "$said")
+}
+
 # after FILE TEXT: waits until the text stands in the file, 10 seconds at most. The file of an earlier case must be gone.
 after() {
     for _ in $(seq 1000); do

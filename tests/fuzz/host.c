@@ -1,4 +1,5 @@
-/* Sessions of a host: raw frames of a machine that mostly answers well, mutated ones, those of strangers, and timers. */
+/* Sessions of a host: raw frames of a machine that mostly answers well, mutated ones, those of strangers, and timers. The
+ * counts of its record may be any. */
 #include "../../driver/host.c" // NOLINT(bugprone-suspicious-include)
 
 #include <stdlib.h>
@@ -94,8 +95,79 @@ static mop_written load_message(const session *s, uint8_t *message)
     return mop_write_request_load(next, one_in(60), message, MOP_FRAME_MOST);
 }
 
+/* ---- The counts ------------------------------------------------------ */
+
+static mop_counts *counts_of(session *s)
+{
+    return s->dump ? &s->taken.counts : &s->load.counts;
+}
+
+static uint64_t any_count(void)
+{
+    const uint64_t any = (uint64_t)any_number() << below(33);
+    return one_in(8) ? UINT64_MAX - below(3) : any;
+}
+
+/* Of a record that waits ignored alone may be above 0, and mostly is. */
+static mop_counts any_counts(bool waits)
+{
+    mop_counts counts = {.ignored = any_count()};
+    if (waits && !one_in(8))
+        return counts;
+    counts.starts = any_count();
+    counts.advances = any_count();
+    counts.rejections = any_count();
+    return counts;
+}
+
+/* Whether they are those of a record that every call refuses. */
+static bool bad_counts(const mop_counts *c, bool waits)
+{
+    if (c->starts == UINT64_MAX || c->advances == UINT64_MAX || c->ignored == UINT64_MAX || c->rejections == UINT64_MAX)
+        return true;
+    return waits && (c->starts != 0 || c->advances != 0 || c->rejections != 0);
+}
+
+/* Of the frames counted, one at least, those that moved nothing in tenths of a percent, with as many digits as it takes. */
+static uint64_t share_of(const mop_counts *c)
+{
+    __extension__ typedef unsigned __int128 wide;
+    const wide all = (wide)c->starts + c->advances + c->ignored + c->rejections;
+    return (uint64_t)((2000 * (wide)c->ignored + all) / (2 * all));
+}
+
+/* Whether these are the words for the counts with this share. */
+static bool words_have(const char *words, const mop_counts *c, uint64_t share)
+{
+    char wanted[SAID_MOST];
+    snprintf(wanted, sizeof wanted,
+        "Frames sent by the session: 7, repeats among them: 1.\nFrames counted: %" PRIu64 " started the load, %" PRIu64
+        " moved it on, %" PRIu64 " moved nothing (%" PRIu64 ".%" PRIu64 " %% of all), %" PRIu64 " rejected it.\n",
+        c->starts, c->advances, c->ignored, share / 10, share % 10, c->rejections);
+    return strcmp(words, wanted) == 0;
+}
+
+/* Very large counts may have a share that is a tenth off. */
+static void check_words(const mop_counts *c)
+{
+    char words[SAID_MOST] = "";
+    FILE *out = fmemopen(words, sizeof words, "w");
+    require(out != NULL, "there is memory");
+    counts_words(out, "load", 7, 1, c);
+    (void)fclose(out);
+    const uint64_t any = c->starts | c->advances | c->ignored | c->rejections;
+    if (any == 0) {
+        require(strstr(words, "\nFrames counted: none.\n") != NULL, "where nothing was counted there is no share");
+        return;
+    }
+    const uint64_t share = share_of(c);
+    const bool near = words_have(words, c, share + 1) || words_have(words, c, share - 1);
+    require(words_have(words, c, share) || (near && any >> 52 != 0), "the counts are said as they are, with the share");
+}
+
 /* ---- What must hold -------------------------------------------------- */
 
+/* All but the counts. */
 static bool same_record(const session *a, const session *b)
 {
     const mop_load *x = &a->load, *y = &b->load;
@@ -137,11 +209,32 @@ static size_t check_sent(const host *h, const session *s, const line_frame *fram
     return count;
 }
 
-static void hand_frame(host *h, session *s)
+/* A frame that is counted raises one count by one, by what it did; all else leaves them. */
+static void check_counts(session *before, session *s, bool counted)
+{
+    mop_counts wanted = *counts_of(before);
+    const mop_counts *now = counts_of(s);
+    const uint64_t moved = s->load.position - before->load.position + s->taken.filled - before->taken.filled;
+    if (counted && stage_of(before) == HOST_WAITING && stage_of(s) != HOST_WAITING)
+        wanted.starts += 1;
+    else if (counted && moved > 0)
+        wanted.advances += 1;
+    else if (counted && s->load.verdict == MOP_LOAD_REJECTED)
+        wanted.rejections += 1;
+    else
+        wanted.ignored += counted;
+    require(now->starts == wanted.starts && now->advances == wanted.advances && now->ignored == wanted.ignored &&
+                now->rejections == wanted.rejections,
+        "each frame that is handed over is counted once, and nothing else");
+    check_words(now);
+}
+
+/* False if the step was refused. */
+static bool hand_frame(host *h, session *s)
 {
     uint8_t message[MOP_FRAME_MOST];
     line_frame frame;
-    const session before = *s;
+    session before = *s;
     mop_written written = s->dump ? dump_message(s, message) : load_message(s, message);
     require(written.refusal == MOP_ACCEPTED, "the fuzzer's own message is good");
     raw_frame(message, written.length);
@@ -149,24 +242,35 @@ static void hand_frame(host *h, session *s)
     bool taken = line_cut(&h->line, &raw, &frame);
     free(raw.bytes);
     if (!taken)
-        return;
+        return true;
     bool foreign = h->named && memcmp(frame.from, h->machine, ADDRESS_LENGTH) != 0;
     bool readable = mop_read(s->load_settings.version, frame.bytes, frame.length).refusal == MOP_ACCEPTED;
-    require(take(h, &frame) == 0, "no frame ends a session by an error");
+    bool waits = stage_of(s) == HOST_WAITING;
+    bool handed = !foreign && !frame.multicast && (!waits || would_begin(s, &frame));
+    bool refused = handed && (!is_version(s->load_settings.version) || bad_counts(counts_of(s), waits));
+    bool named = h->named || (handed && waits);
+    require(take(h, &frame) == (refused ? STATUS_OTHER : 0), "a frame ends a good session by no error");
+    require(h->named == named, "the machine is the one that the session begins with");
+    check_counts(&before, s, handed && readable && !refused);
     size_t count = check_sent(h, s, &frame);
     require(!foreign || (count == 0 && same_record(&before, s)), "a stranger's frame does nothing");
     require((readable && !frame.multicast) || same_record(&before, s), "the record is as it was");
     require(readable || count == 0, "a frame that cannot be read is not answered");
     require(is_version(s->load_settings.version) || count == 0, "a session of no version is not begun");
+    return !refused;
 }
 
-/* Only a session that has begun has a timer. */
-static void run_timer(host *h, const session *s)
+/* Only a session that has begun has a timer. False if the step was refused. */
+static bool run_timer(host *h, session *s)
 {
+    session before = *s;
     if (stage_of(s) == HOST_WAITING)
-        return;
-    require(silence(h) == 0, "a timer ends no session by an error");
+        return true;
+    bool refused = bad_counts(counts_of(s), false);
+    require(silence(h) == (refused ? STATUS_OTHER : 0), "a timer ends a good session by no error");
+    check_counts(&before, s, false);
     check_sent(h, s, NULL);
+    return !refused;
 }
 
 /* ---- The session ----------------------------------------------------- */
@@ -204,11 +308,11 @@ static bool fuzz_session(bool dump)
     h.named = one_in(4);
     memcpy(h.machine, PEER, ADDRESS_LENGTH);
     line_make(&h.line);
-    for (unsigned event = 0; event < 80 && stage_of(&s) != HOST_OVER; event++) {
-        if (one_in(8))
-            run_timer(&h, &s);
-        else
-            hand_frame(&h, &s);
+    bool goes_on = true;
+    for (unsigned event = 0; event < 80 && goes_on && stage_of(&s) != HOST_OVER; event++) {
+        if (one_in(60))
+            *counts_of(&s) = any_counts(stage_of(&s) == HOST_WAITING);
+        goes_on = one_in(8) ? run_timer(&h, &s) : hand_frame(&h, &s);
         check_buffer(&s);
     }
     return s.dump ? s.taken.verdict == MOP_DUMP_FINISHED : s.load.verdict == MOP_LOAD_FINISHED;
