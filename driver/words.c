@@ -402,6 +402,9 @@ void counts_help(FILE *out)
           "    many     few            frames are lost: suspect the cable and its plugs\n"
           "    many     as many        answers are late: give a longer --timer\n"
           "    few      many           frames come twice, or the machine sends unasked\n"
+          "\n"
+          "  A boot ROM may call a repeated segment an error: then a load that is rejected\n"
+          "  after a repeat has lost an answer too.\n"
           "\n",
         out);
 }

@@ -39,11 +39,11 @@ enum { STARTS, ADVANCES, IGNORED, REJECTIONS, COUNTS };
 uint64_t *count_of(mop_counts *counts, int which);
 bool same_counts(mop_counts a, mop_counts b);
 
-/* Whether they make a record bad, and any counts of a record that mostly don't. */
+/* Whether they make a record bad, and any counts, mostly such as do not. */
 bool bad_counts(mop_counts counts, uint8_t waiting);
 mop_counts any_counts(bool waits);
 
-/* What a frame makes of them that is counted, the first of these that it did. */
+/* The counts after a frame that is counted, by the first of these that it did. */
 mop_counts count_frame(
     mop_counts counts, bool started, bool moved, bool rejected);
 

@@ -248,9 +248,10 @@ static bool hand_frame(host *h, session *s)
     bool waits = stage_of(s) == HOST_WAITING;
     bool handed = !foreign && !frame.multicast && (!waits || would_begin(s, &frame));
     bool refused = handed && (!is_version(s->load_settings.version) || bad_counts(counts_of(s), waits));
-    bool named = h->named || (handed && waits);
+    bool begins = handed && waits, named = h->named || begins;
     require(take(h, &frame) == (refused ? STATUS_OTHER : 0), "a frame ends a good session by no error");
-    require(h->named == named, "the machine is the one that the session begins with");
+    require(h->named == named && (!begins || memcmp(h->machine, frame.from, ADDRESS_LENGTH) == 0),
+        "the machine is the one that the session begins with");
     check_counts(&before, s, handed && readable && !refused);
     size_t count = check_sent(h, s, &frame);
     require(!foreign || (count == 0 && same_record(&before, s)), "a stranger's frame does nothing");

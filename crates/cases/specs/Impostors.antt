@@ -1,7 +1,7 @@
 -- Impostors at either end (PROTOCOL), in the link: ends that are ours but for one thing. After one short list of events the claim of demand 3 is
 -- false of each, so no proof of it could be had. Image, settings and memory are those of the worked examples.
 use Prim.Native.Nat.{ℕ}
-use mathlib.Core.Path.{refl, ap}
+use mathlib.Core.Path.{_≡_, refl, ap}
 use mathlib.Core.Bool.{Bool, cond as pick}
 use mathlib.Core.List.{List, [], _∷_, _++_}
 use mathlib.Core.Option.{Option·some-injective}
@@ -26,7 +26,7 @@ use Rattle.block.specs.Block.{cell, block}
 use Rattle.machine_record.specs.declared.Machine.{Machine}
 use Rattle.machine_record.specs.Record.{keeping}
 use Rattle.machine_next.specs.Next.{byNumber, onLoad, onParameters}
-use Rattle.counts.specs.Counts.{ignore}
+use Rattle.counts.specs.Counts.{sum, ignore}
 use Rattle.load_record.specs.declared.Session.{Session}
 use Rattle.load_record.specs.Record.{counting}
 use Rattle.load.specs.Load.{raised}
@@ -150,6 +150,11 @@ misfiled before (acts h out) =
 
 abbrev misfiles : Ends Session End ⊥
 misfiles = withHost (λ h f b. misfiled (h .counts .advances) (ours .hostFrame h f b))
+
+pub sum-right : sum (run misfiles (load.freshWorld loaded.machineSettings (replicate 8 0)) whole .host .counts)
+    ≡ run misfiles (load.freshWorld loaded.machineSettings (replicate 8 0)) whole .heard
+unfolding run loaded.image number low find fields layout first trailerOf entryOf entries demand entriesRefusal many segment fits touches byNumber onLoad
+sum-right = refl
 
 pub finishing-ignored : Claim misfiles 8 whole → ⊥
 unfolding run loaded.image number low find fields layout first trailerOf entryOf entries demand entriesRefusal many segment fits touches byNumber onLoad

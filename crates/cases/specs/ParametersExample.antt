@@ -2,8 +2,7 @@
 -- twice. The first code 20 is lost, and goes out again at a timer.
 use Prim.Native.Nat.{ℕ}
 use mathlib.Core.Path.{_≡_, refl, ap}
-use mathlib.Core.Bool.{true}
-use mathlib.Core.List.{List, [], _∷_, _++_}
+use mathlib.Core.List.{List, [], _∷_}
 use lib.ListN.{replicate}
 use Rattle.octets.specs.Number.{number, low}
 use Rattle.entries_next.specs.Next.{next}

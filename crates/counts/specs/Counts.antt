@@ -51,3 +51,7 @@ tally before after c =
     (pick (eqb (after .verdict) 2) (reject c)
     (ignore c))))
     c
+
+-- what a frame leaves that moves nothing: one more ignored frame, while the verdict is 0
+abbrev pub passed : ℕ → Counts → Counts
+passed verdict c = pick (eqb verdict 0) (ignore c) c

@@ -8,7 +8,7 @@ use borrow.Author.Tests.{eq-eqb, ne-eqb, eqb-true, eqb-false, lt-ltb, le-ltb, lt
 use Rattle.octets.specs.TestLaws.{by-cases, both}
 use Rattle.counts.specs.declared.Counts.{Counts}
 use Rattle.counts.specs.declared.Standing.{Standing}
-use Rattle.counts.specs.Counts.{sum, top, below, start, advance, ignore, reject, begins, tally}
+use Rattle.counts.specs.Counts.{sum, top, below, start, advance, ignore, reject, begins, tally, passed}
 
 -- every count is below the top
 pub record Below (c : Counts) : Type 0 where
@@ -74,7 +74,7 @@ standing-still w = go (eqb w 1) refl
     go true e = ne-eqb w 0 (omega (arith, eqb-true w 1 e))
     go false e = refl
 
-pub unmoved : (x : Standing) (c : Counts) → tally x x c ≡ pick (eqb (x .verdict) 0) (ignore c) c
+pub unmoved : (x : Standing) (c : Counts) → tally x x c ≡ passed (x .verdict) c
 unmoved x c = go (eqb (x .verdict) 0) refl
   where
     go : (b : Bool) → eqb (x .verdict) 0 ≡ b → tally x x c ≡ pick b (ignore c) c

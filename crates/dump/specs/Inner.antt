@@ -17,7 +17,7 @@ abbrev pub Room : Bool → ℕ → ℕ → ℕ → Type 0
 Room false at count size = Unit {0}
 Room true at count size = at + count ≤ size
 
--- What writing a frame and counting it rest on: settings in their ranges, counts far from overflow, a reply buffer of 1,500 bytes.
+-- What writing a frame and counting it rest on: settings in their ranges, replies and frames sent far from overflow, a reply buffer of 1,500 bytes.
 pub record Ready (s : Settings) (n : Next) (size : ℕ) : Type 0 where
   pub bytes : s .«request_bytes» ≤ 1495
   pub range : s .address + s .length ≤ 4294967296

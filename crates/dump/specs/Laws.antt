@@ -1,5 +1,5 @@
 -- Laws of a dump's calls: an accepted call is ready for what is done next, and what goes out by its case.
-use Prim.Native.Nat.{ℕ, _+_, _≤_}
+use Prim.Native.Nat.{ℕ, _+_}
 use mathlib.Core.Path.{_≡_, refl, _∙_}
 use mathlib.Core.Bool.{true, _&&_}
 use mathlib.Core.List.{List}
@@ -28,7 +28,7 @@ use Rattle.dump_checks.specs.Laws.{bound, Accepted}
 use Rattle.dump.specs.Dump.{counted, filled, does, onFrame, dumpFrame}
 use Rattle.dump.specs.Inner.{Missing, Room, Ready}
 
--- What is so of what is done next, on a reply of k bytes: the counts stay, and what is asked for or taken is within the range.
+-- What is so of what is done next, on a reply of k bytes: replies and frames sent stay, and what is asked for or taken is within the range.
 abbrev Follows : Settings → Session → ℕ → Next → Type 0
 Follows s h k n =
     (n .session .replies ≡ h .replies) × (n .session .sent ≡ h .sent) × Missing s (n .session .filled) (n .sends) × Room (n .takes) (h .filled) k (s .length)

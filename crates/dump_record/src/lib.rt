@@ -38,7 +38,7 @@ pub enum Sends {
     Complete,
 }
 
-// What it does next: its record but for the counts, whether a reply's bytes are taken, and what goes out.
+// What it does next: its record, of which `tallied` raises a count, whether a reply's bytes are taken, and what goes out.
 pub struct Next {
     pub session: Session,
     pub takes: bool,

@@ -2,7 +2,6 @@
 use Prim.Native.Nat.{ℕ, zero, suc}
 use mathlib.Core.Path.{_≡_, refl, sym, subst, _∙_}
 use mathlib.Core.List.{List, [], _∷_, _++_, append-nil}
-use native.Mathlib.Omega.{arith}
 use lib.ListN.{take, drop, take-append-drop}
 use Rattle.link.specs.Link.{Frame, Turn, refuses, acts, World, Ends, Event, own, further, handToMachine, keepToMachine, dropToMachine, handToHost, keepToHost, dropToHost, hostTimer, machineTimer, Own, machineTurn, hostTurn, withToMachine, withToHost, counts, ownStep, step, run}
 use Rattle.link.specs.LinkLaws.{handedToMachine, keptToMachine, droppedToMachine, handedToHost, keptToHost, droppedToHost, Lost, here, there, Closed, kept-any}

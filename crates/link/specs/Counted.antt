@@ -4,8 +4,8 @@ use mathlib.Core.Path.{_≡_}
 use Rattle.counts.specs.declared.Counts.{Counts}
 
 -- With this waiting mark, so many steps forward (c of a load, the replies taken of a dump) and this verdict: starts is 0 while it waits and 1
--- from then on; advances is the steps forward; rejections is 1 where the verdict is 2, rejected, and 0 elsewhere. All other frames are ignored
--- ones.
+-- from then on; advances is the steps forward; rejections is 1 where the verdict is 2, rejected, and 0 elsewhere. With the sum of all
+-- four the rest are the ignored ones.
 pub record Counted (waiting forward verdict : ℕ) (c : Counts) : Type 0 where
   pub waits : waiting ≡ 1 → c .starts ≡ 0
   pub started : (waiting ≡ 1 → ⊥) → c .starts ≡ 1

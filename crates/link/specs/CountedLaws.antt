@@ -7,7 +7,7 @@ use lib.Dec.{eqb}
 use borrow.Author.Tests.{eq-eqb}
 use Rattle.octets.specs.TestLaws.{by-cases}
 use Rattle.counts.specs.declared.Counts.{Counts}
-use Rattle.counts.specs.Counts.{zero, sum, onlyIgnored, start, advance, ignore, reject}
+use Rattle.counts.specs.Counts.{zero, sum, onlyIgnored, passed, start, advance, ignore, reject}
 use Rattle.link.specs.Counted.{Counted}
 
 pub fresh : Counted 1 0 0 zero
@@ -50,9 +50,6 @@ module _ {w f v : ℕ} {c : Counts} (k : Counted w f v c) where
   only-ignored e z n = rw (k .waits e, eq-eqb (c .advances) 0 (k .advances ∙ z), k .not-rejected n)
 
 -- the counts after a frame that is ignored
-abbrev pub passed : ℕ → Counts → Counts
-passed verdict c = pick (eqb verdict 0) (ignore c) c
-
 pub passing : {w f v : ℕ} {c : Counts} → Counted w f v c → Counted w f v (passed v c)
 passing {w} {f} {v} {c} k = by-cases (Counted w f v) (eqb v 0) (λ _. ignoring k) (λ _. k)
 

@@ -5,7 +5,6 @@ use mathlib.Core.Bool.{Bool, true, false, not, cond as pick}
 use mathlib.Core.List.{List}
 use native.Mathlib.Omega.{arith}
 use native.Mathlib.Nat.{add-mul}
-use lib.ListN.{length}
 use lib.Dec.{eqb}
 use borrow.Author.Tests.{eq-eqb, ne-eqb, le-leb, eqb-true, eqb-false}
 use Rattle.octets.specs.TestLaws.{by-cases}
@@ -15,12 +14,12 @@ use Rattle.counts.specs.Laws.{sum-below}
 use Rattle.dump_record.specs.declared.Settings.{Settings}
 use Rattle.dump_record.specs.Record as dumpRecord
 use Rattle.dump_checks.specs.Checks as dumpChecks
-use Rattle.link.specs.Link.{Frame, Turn, refuses, acts, Ends, counts}
+use Rattle.link.specs.Link.{Frame, Turn, Ends, counts}
 use Rattle.link.specs.CallLaws.{Unless}
 use Rattle.link.specs.Counted.{Counted}
 use Rattle.link.specs.CountedLaws.{starting, advancing, ending, only-ignored, passing, passed-sum, one}
 use Rattle.link.specs.LinkLaws.{Closed}
-use Rattle.link.specs.AloneLaws.{Keeps, Alone, alone}
+use Rattle.link.specs.AloneLaws.{Keeps, Raises, Alone, alone}
 use Rattle.link_dump.specs.Model.{Host}
 use Rattle.link_dump.specs.HostLaws.{Now, Sending, Heard, refused, ignored, begins, asks, finishes, Timed, repeats, givesUp}
 
@@ -47,10 +46,8 @@ Good s h =
     Numbers (s .length) (s .repeats) (h .session .waiting) (h .session .filled) (h .session .replies) (h .session .repeats) (h .session .verdict) (h .session .sent)
 
 module _ (s : Settings) (some : 1 ≤ s .length) where
-  -- a call that is refused, or leaves a good record that counts the frames it returns
   abbrev pub Kept : Host → Turn Host → Type 0
-  Kept h refuses = Unit {0}
-  Kept h (acts x out) = Good s x × (x .session .sent ≡ h .session .sent + length out)
+  Kept = Keeps (Good s) (λ h. h .session .sent)
 
   good : {w f n k v t : ℕ} {c : Counts} {buffer : List ℕ} (x : Host) → Now x w f n k v t c buffer → Numbers (s .length) (s .repeats) w f n k v t → Good s x
   good x n g = rw (n .waiting, n .filled, n .replies, n .repeats, n .verdict, n .sent) g
@@ -109,10 +106,8 @@ module _ (s : Settings) (some : 1 ≤ s .length) where
             (λ v. let z = g .unfinished (eqb-false _ _ v) in rw (ne-eqb (h .session .filled) (s .length) (omega arith)))
 
   -- ---- the counts
-  -- a call that is refused, or leaves counts that say what they should, and so many more frames
   abbrev Raised : Host → ℕ → Turn Host → Type 0
-  Raised h n refuses = Unit {0}
-  Raised h n (acts x out) = Counting x × (sum (x .session .counts) ≡ sum (h .session .counts) + n)
+  Raised = Raises Counting (λ h. sum (h .session .counts))
 
   says : {w f n k v t : ℕ} {c : Counts} {buffer : List ℕ} (x : Host) → Now x w f n k v t c buffer → Counted w n v c → Counting x
   says x n k = rw (n .waiting, n .replies, n .verdict, n .counts) k
@@ -136,22 +131,14 @@ module _ (s : Settings) (some : 1 ≤ s .length) where
     unraised t (givesUp x w r m) = (says x m (rw (w .0) at (ending k 3 (omega (arith, w .1)) (omega arith))), ap sum (m .counts) ∙ (omega arith))
 
   -- ---- every run, beside any machine and any further events that leave the host alone
-  abbrev pub Known : Host → Type 0
-  Known h = Good s h × Counting h
-
-  together : (h : Host) (n : ℕ) (t : Turn Host) → Kept h t → Raised h n t → Keeps Known (λ x. x .session .sent) (λ x. sum (x .session .counts)) h n t
-  together h n refuses a b = tt
-  together h n (acts x out) a b = ((a .0, b .0), a .1, b .1)
-
   pub alone-dump : {M X : Type 0} (ends : Ends Host M X) → ((h : Host) (f b : List ℕ) → Heard s h f (ends .hostFrame h f b))
       → ((h : Host) (b : List ℕ) → Timed s h (ends .hostTimer h b))
       → ((h : Host) (f b : List ℕ) → Unless (counts ends h f ≡ pick (eqb (h .session .verdict) 0) 1 0) (ends .hostFrame h f b))
-      → Closed ends (Alone Known (λ h. h .session .sent) (λ h. sum (h .session .counts)) ends)
+      → Closed ends (Alone (Good s) Counting (λ h. h .session .sent) (λ h. sum (h .session .counts)) ends)
   alone-dump ends heard timed hears =
-      alone Known (λ h. h .session .sent) (λ h. sum (h .session .counts)) ends
-      (λ h f b g. let x = heard h f b in let t = ends .hostFrame h f b in
-      together h (counts ends h f) t (on-heard h (g .0) f t x) (raised h (g .1) f (counts ends h f) t x (hears h f b)))
-      (λ h b g. let x = timed h b in let t = ends .hostTimer h b in together h 0 t (on-timed h (g .0) t x) (unraised h (g .1) t x))
+      alone (Good s) Counting (λ h. h .session .sent) (λ h. sum (h .session .counts)) ends
+      (λ h f b g k. let x = heard h f b in let t = ends .hostFrame h f b in (on-heard h g f t x, raised h k f (counts ends h f) t x (hears h f b)))
+      (λ h b g k. let x = timed h b in let t = ends .hostTimer h b in (on-timed h g t x, unraised h k t x))
 
   pub fresh : (buffer : List ℕ) → Good s (record { session = dumpRecord.fresh; buffer = buffer })
   fresh buffer = omega arith

@@ -35,7 +35,7 @@ use Rattle.link_dump.specs.FilledLaws as filled
 use Rattle.link_dump.specs.FilledLaws.{filledWith, past-filled, filled-whole}
 use Rattle.link_dump.specs.HostLaws.{heard, counted, timed}
 use Rattle.link_dump.specs.AloneLaws as alone
-use Rattle.link_dump.specs.AloneLaws.{Known, alone-dump, fresh, bound}
+use Rattle.link_dump.specs.AloneLaws.{Good, Counting, alone-dump, fresh, bound}
 use Rattle.link_dump.specs.InvariantLaws.{Carries, Asks, Tells, asks-read, tells-read, read, Given, given, Inv, closed, fresh-holds}
 
 -- the claim says nothing of the queues
@@ -81,7 +81,7 @@ module _
 
   -- ---- what every run keeps: each end and each frame is as it may be, and the record's numbers and counts are good
   abbrev pub Counts : World Host End → Type 0
-  Counts = Alone (Known s (g .some)) (λ h. h .session .sent) (λ h. sum (h .session .counts)) (dumpEnds s ms)
+  Counts = Alone (Good s) Counting (λ h. h .session .sent) (λ h. sum (h .session .counts)) (dumpEnds s ms)
 
   abbrev pub Kept : World Host End → Type 0
   Kept w = Inv s ms memory buffer g w × Counts w
@@ -93,7 +93,7 @@ module _
   counting = alone-dump s (g .some) (dumpEnds s ms) (heard s) (timed s) (counted s)
 
   at-first : Kept (freshWorld ms memory buffer)
-  at-first = (fresh-holds s ms memory buffer g, ((fresh s (g .some) buffer, fresh-counts), refl, refl))
+  at-first = (fresh-holds s ms memory buffer g, record { good = fresh s (g .some) buffer; took = refl; says = fresh-counts; hears = refl })
 
   pub kept : (es : List (Event ⊥)) → Kept (after s ms memory buffer es)
   kept es = (
@@ -110,7 +110,7 @@ module _
   module _ (w : World Host End) (k : Kept w) where
     pub claimed : Dumped s memory buffer w
     claimed =
-        let n = k .1 .0 .0 in
+        let n = k .1 .good in
         let whole = g .whole in
         let few = n .filled in
         record {
@@ -120,12 +120,12 @@ module _
           filled = omega (arith, n .filled);
           finished = λ v. n .finished v .0;
           full = λ e. full (w .host .session .verdict) (w .host .session .filled) (n .unfinished) e;
-          counted = omega (arith, k .1 .1);
+          counted = k .1 .took;
           bounded = bound s (g .some) (w .host) n;
-          handed = k .1 .2;
-          counts = k .1 .0 .1;
-          never-rejected = k .1 .0 .1 .not-rejected (n .never);
-          sound = λ l. alone.never-bad s (g .some) (w .host) n (k .1 .0 .1) (omega (arith, k .1 .2));
+          handed = k .1 .hears;
+          counts = k .1 .says;
+          never-rejected = k .1 .says .not-rejected (n .never);
+          sound = λ l. alone.never-bad s (g .some) (w .host) n (k .1 .says) (omega (arith, k .1 .hears));
         }
       where
         full : (v f : ℕ) → ((v ≡ 1 → ⊥) → f < s .length) → f ≡ s .length → v ≡ 1

@@ -16,7 +16,7 @@ use Rattle.message.specs.Write.{layout}
 use Rattle.message.specs.Laws.{fields-inside}
 use Rattle.counts.specs.declared.Counts.{Counts}
 use Rattle.counts.specs.declared.Standing.{Standing}
-use Rattle.counts.specs.Counts.{start, advance}
+use Rattle.counts.specs.Counts.{start, advance, passed}
 use Rattle.counts.specs.Laws as count
 use Rattle.dump_record.specs.declared.Session.{Session}
 use Rattle.dump_record.specs.declared.Settings.{Settings}
@@ -28,7 +28,6 @@ use Rattle.dump_checks.specs.Checks as dumpChecks
 use Rattle.dump.specs.Dump as dump
 use Rattle.link.specs.Link.{Frame, Turn, refuses, acts, turned, queued, hearing}
 use Rattle.link.specs.CallLaws.{called, came, frame-came, Unless, until-verdict}
-use Rattle.link.specs.CountedLaws.{passed}
 use Rattle.link_dump.specs.Model.{Host, hostEnd}
 
 -- The numbers of a record: waiting, bytes filled, replies taken, repeats, verdict, frames sent; its counts; and the dump buffer.

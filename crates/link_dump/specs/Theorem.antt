@@ -3,7 +3,7 @@
 --     filed-dump         a finished dump is the machine's memory, byte for byte
 --     unfinished-dump    otherwise the filled part is, and the rest of the buffer is untouched
 --     counted            frames sent is what the link took, within its bound
---     counts-dump        what each of the four counts is, and all of them together
+--     handed-dump        what each of the four counts is, and all of them together
 --     never-bad          in fewer than 2^64 - 1 events no reached record is a bad one
 --     never-refused      nor is a call of either end with a reply buffer of 1,500 bytes refused
 --     bounded-dump, bounded-never-refused    the same on a line with bounded queues
@@ -101,9 +101,9 @@ module _
 
   -- What each count of the record is: starts is 0 while the host waits and 1 from then on, advances is the number of replies taken, rejections is
   -- 0. All four together are the readable frames that the link handed to the host while its verdict was 0; so the rest of these were ignored.
-  pub counts-dump : Counted (session .waiting) (session .replies) (session .verdict) (session .counts) × (session .counts .rejections ≡ 0)
+  pub handed-dump : Counted (session .waiting) (session .replies) (session .verdict) (session .counts) × (session .counts .rejections ≡ 0)
       × (sum (session .counts) ≡ after s ms memory buffer es .heard)
-  counts-dump = (dumped .counts, dumped .never-rejected, dumped .handed)
+  handed-dump = (dumped .counts, dumped .never-rejected, dumped .handed)
 
   -- After fewer than 2^64 - 1 events the record is none of those that a call refuses as bad.
   pub never-bad : length es < top → dumpChecks.sound s session ≡ true

@@ -5,18 +5,17 @@ use mathlib.Core.Bool.{Bool, true, false, cond as pick}
 use mathlib.Core.List.{List}
 use native.Mathlib.Omega.{arith}
 use native.Mathlib.Nat.{add-mul, mul-le-mul-right}
-use lib.ListN.{length}
 use lib.Dec.{eqb}
 use borrow.Author.Tests.{eqb-true, eqb-false}
 use Rattle.counts.specs.declared.Counts.{Counts}
 use Rattle.counts.specs.Counts.{sum}
 use Rattle.load_record.specs.declared.Session.{Session}
-use Rattle.link.specs.Link.{Frame, Turn, refuses, acts, Ends, counts}
+use Rattle.link.specs.Link.{Frame, Turn, Ends, counts}
 use Rattle.link.specs.CallLaws.{Unless}
 use Rattle.link.specs.Counted.{Counted}
 use Rattle.link.specs.CountedLaws.{starting, advancing, rejecting, ending, passing, passed-sum, one}
 use Rattle.link.specs.LinkLaws.{Closed}
-use Rattle.link.specs.AloneLaws.{Keeps, Alone, alone}
+use Rattle.link.specs.AloneLaws.{Keeps, Raises, Alone, alone}
 use Rattle.link_load.specs.HostLaws.{Now, Sending, Heard, refused, ignored, begins, advances, finishes, rejects, Timed, repeats, givesUp, unconfirmed}
 
 -- N frames, each repeated at most R times; the flag w, position c, k repeats, verdict v, t frames sent.
@@ -39,10 +38,8 @@ abbrev pub Counting : Session → Type 0
 Counting h = Counted (h .waiting) (h .position) (h .verdict) (h .counts)
 
 module _ (N R : ℕ) (some : 1 ≤ N) (F : ℕ → Frame) where
-  -- a call that is refused, or leaves a good record that counts the frames it returns
   abbrev pub Kept : Session → Turn Session → Type 0
-  Kept h refuses = Unit {0}
-  Kept h (acts x out) = Good N R x × (x .sent ≡ h .sent + length out)
+  Kept = Keeps (Good N R) (λ h. h .sent)
 
   good : {w c k v t : ℕ} {m : Counts} (x : Session) → Now x w c k v t m → Numbers N R w c k v t → Good N R x
   good x n g = rw (n .waiting, n .position, n .repeats, n .verdict, n .sent) g
@@ -75,10 +72,8 @@ module _ (N R : ℕ) (some : 1 ≤ N) (F : ℕ → Frame) where
   on-timed h t g (unconfirmed x w r l n) = let z = on-way h g w in (good x n (omega arith), omega arith)
 
   -- ---- the counts
-  -- a call that is refused, or leaves counts that say what they should, and so many more frames
   abbrev Raised : Session → ℕ → Turn Session → Type 0
-  Raised h n refuses = Unit {0}
-  Raised h n (acts x out) = Counting x × (sum (x .counts) ≡ sum (h .counts) + n)
+  Raised = Raises Counting (λ h. sum (h .counts))
 
   says : {w c k v t : ℕ} {m : Counts} (x : Session) → Now x w c k v t m → Counted w c v m → Counting x
   says x n k = rw (n .waiting, n .position, n .verdict, n .counts) k
@@ -106,22 +101,14 @@ module _ (N R : ℕ) (some : 1 ≤ N) (F : ℕ → Frame) where
   unraised h t k (unconfirmed x w r l m) = (says x m (rw (w .0) at (ending k 4 (omega (arith, w .1)) (omega arith))), ap sum (m .counts) ∙ (omega arith))
 
   -- ---- every run, beside any machine and any further events that leave the host alone
-  abbrev pub Known : Session → Type 0
-  Known h = Good N R h × Counting h
-
-  together : (h : Session) (n : ℕ) (t : Turn Session) → Kept h t → Raised h n t → Keeps Known (λ x. x .sent) (λ x. sum (x .counts)) h n t
-  together h n refuses a b = tt
-  together h n (acts x out) a b = ((a .0, b .0), a .1, b .1)
-
   pub alone-load : {M X : Type 0} (ends : Ends Session M X) → ((h : Session) (f b : List ℕ) → Heard N R F h f (ends .hostFrame h f b))
       → ((h : Session) (b : List ℕ) → Timed N R F h (ends .hostTimer h b))
       → ((h : Session) (f b : List ℕ) → Unless (counts ends h f ≡ pick (eqb (h .verdict) 0) 1 0) (ends .hostFrame h f b))
-      → Closed ends (Alone Known (λ h. h .sent) (λ h. sum (h .counts)) ends)
+      → Closed ends (Alone (Good N R) Counting (λ h. h .sent) (λ h. sum (h .counts)) ends)
   alone-load ends heard timed hears =
-      alone Known (λ h. h .sent) (λ h. sum (h .counts)) ends
-      (λ h f b g. let x = heard h f b in let t = ends .hostFrame h f b in
-      together h (counts ends h f) t (on-heard h f t (g .0) x) (raised h f (counts ends h f) t (g .0) (g .1) x (hears h f b)))
-      (λ h b g. let x = timed h b in let t = ends .hostTimer h b in together h 0 t (on-timed h t (g .0) x) (unraised h t (g .1) x))
+      alone (Good N R) Counting (λ h. h .sent) (λ h. sum (h .counts)) ends
+      (λ h f b g k. let x = heard h f b in let t = ends .hostFrame h f b in (on-heard h f t g x, raised h f (counts ends h f) t g k x (hears h f b)))
+      (λ h b g k. let x = timed h b in let t = ends .hostTimer h b in (on-timed h t g x, unraised h t k x))
 
 -- no record has sent more than N (R + 1) frames
 pub bound : (N R : ℕ) (h : Session) → Good N R h → h .sent ≤ N * (R + 1)

@@ -16,7 +16,7 @@ use Rattle.machine_record.specs.declared.Settings.{Settings as MachineSettings}
 use Rattle.machine_timer.specs.Timer.{asksLoad}
 use Rattle.counts.specs.declared.Counts.{Counts}
 use Rattle.counts.specs.declared.Standing.{Standing}
-use Rattle.counts.specs.Counts.{start, advance, reject}
+use Rattle.counts.specs.Counts.{start, advance, reject, passed}
 use Rattle.counts.specs.Laws as count
 use Rattle.load_record.specs.declared.Session.{Session}
 use Rattle.load_record.specs.declared.Settings.{Settings}
@@ -29,7 +29,6 @@ use Rattle.load_checks.specs.Laws.{accepted}
 use Rattle.load.specs.Load as load
 use Rattle.link.specs.Link.{Frame, Turn, refuses, acts, turned, queued, hearing}
 use Rattle.link.specs.CallLaws.{called, came, frame-came, Unless, until-verdict}
-use Rattle.link.specs.CountedLaws.{passed}
 use Rattle.link_load.specs.Model.{hostEnd}
 
 -- The numbers of a record: waiting, position, repeats, verdict, frames sent; and its counts.

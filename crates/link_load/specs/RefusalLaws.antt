@@ -101,7 +101,7 @@ module _
   version = rw (← same) (in-range ms requesting (length old) 1500 fresh .3)
 
   host-accepted : (reply : List ℕ) → 1500 ≤ length reply → load-checks.refusal s (w .host) file string reply ≡ 0
-  host-accepted reply l = not-refused s file string (w .host) reply ok good few mark version (k .1 .0 .0) (k .1 .0 .1) (omega (arith, k .1 .2)) l
+  host-accepted reply l = not-refused s file string (w .host) reply ok good few mark version (k .1 .good) (k .1 .says) (omega (arith, k .1 .hears)) l
 
   -- the machine's state and memory length stay within their ranges
   any : (a b : Bool) (x y z : Machine) → x .state ≤ 4 → y .state ≤ 4 → z .state ≤ 4 → pick a (pick b x y) z .state ≤ 4

@@ -33,7 +33,7 @@ use Rattle.link.specs.WindowLaws.{window-closed}
 use Rattle.link_load.specs.Model.{loadEnds, freshWorld, after, laidOver, parametersIn, laidFrames, FirstIn}
 use Rattle.link_load.specs.Report.{Report}
 use Rattle.link_load.specs.HostLaws.{F, heard, counted, timed}
-use Rattle.link_load.specs.AloneLaws.{Good, Known, alone-load, bound}
+use Rattle.link_load.specs.AloneLaws.{Good, Counting, alone-load, bound}
 use Rattle.link_load.specs.FramesLaws.{Frames, receiver, laid, machineAt}
 use Rattle.link_load.specs.SenderLaws.{Stage, sending, sender, fresh}
 use Rattle.link_load.specs.ImageLaws.{no-parameters, parameters-last, in-last, in-early, loadFrames}
@@ -79,7 +79,7 @@ module _ (s : LoadSettings) (ms : MachineSettings) (file string old : List ℕ) 
   Inv = numbered.Inv load-transfer (loadEnds s ms file string)
 
   abbrev pub Counts : World Session End → Type 0
-  Counts = Alone (Known n (s .repeats) (fr .some) (F s file string)) (λ h. h .sent) (λ h. sum (h .counts)) (loadEnds s ms file string)
+  Counts = Alone (Good n (s .repeats)) Counting (λ h. h .sent) (λ h. sum (h .counts)) (loadEnds s ms file string)
 
   abbrev pub Windowed : World Session End → Type 0
   Windowed = window.Kept ms old
@@ -102,8 +102,11 @@ module _ (s : LoadSettings) (ms : MachineSettings) (file string old : List ℕ) 
 
   at-first : Kept (freshWorld ms old)
   unfolding machineAt laid
-  at-first =
-      ((0, 0, numbered.begins load-transfer (loadEnds s ms file string) _ _ (fresh fr (s .repeats) old) refl), ((fresh fr (s .repeats) old .good, fresh-counts), refl, refl), λ a x. refl)
+  at-first = (
+    (0, 0, numbered.begins load-transfer (loadEnds s ms file string) _ _ (fresh fr (s .repeats) old) refl),
+    record { good = fresh fr (s .repeats) old .good; took = refl; says = fresh-counts; hears = refl },
+    λ a x. refl,
+  )
 
   pub kept : (es : List (Event ⊥)) → Kept (after s ms file string old es)
   kept es = (
@@ -164,7 +167,7 @@ module _ (s : LoadSettings) (ms : MachineSettings) (file string old : List ℕ) 
   pub report : (w : World Session End) → Kept w → Report s ms file string old w
   report w k =
       let i = k .0 in
-      let g : Good n (s .repeats) (w .host) = k .1 .0 .0 in
+      let g : Good n (s .repeats) (w .host) = k .1 .good in
       let m : Meaning fr old (w .host) (w .machine) =
       subst (Meaning fr old (w .host)) (sym (i .2 .end-is)) (means fr old (s .repeats) (i .0) (i .1) (w .host) (i .2 .stage) (i .2 .lower) (i .2 .upper) (i .2 .few) (i .2 .fitting)) in
       record {
@@ -173,10 +176,10 @@ module _ (s : LoadSettings) (ms : MachineSettings) (file string old : List ℕ) 
         finished = λ e. frames-in n (w .machine) (m .finished e);
         otherwise = λ a b c. ⊎-map (frames-in (w .host .position) (w .machine)) (frames-in (w .host .position + 1) (w .machine)) (m .otherwise a b);
         window-kept = k .2;
-        counted = omega (arith, k .1 .1);
+        counted = k .1 .took;
         bounded = omega (arith, bound n (s .repeats) (w .host) g);
-        handed = k .1 .2;
-        counts = k .1 .0 .1;
+        handed = k .1 .hears;
+        counts = k .1 .says;
         rejected-at = λ e. g .otherwise (λ q. omega arith) .0;
         given-up-at = λ e. g .given-up e .0;
         unconfirmed-at = λ e. g .unconfirmed e .0;

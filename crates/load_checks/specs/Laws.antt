@@ -7,7 +7,7 @@ use native.Mathlib.Omega.{arith}
 use native.Mathlib.Nat.{mul-le-mul}
 use lib.ListN.{length, length-append}
 use lib.Dec.{eqb, leb}
-use borrow.Author.Tests.{leb-true, leb-false, le-ltb, lt-ltb, eqb-true, eqb-false, not-true, le-leb, eq-eqb, ne-eqb}
+use borrow.Author.Tests.{leb-true, leb-false, le-ltb, lt-ltb, eqb-true, eqb-false, not-true, le-leb}
 use Rattle.octets.specs.NumberLaws.{length-low}
 use Rattle.octets.specs.TestLaws.{by-cases, both}
 use Rattle.directory.specs.Directory.{addresses, trailer, regions, demand, refusal as imageRefusal}

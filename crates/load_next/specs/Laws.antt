@@ -1,4 +1,4 @@
--- Laws of what the host does next on a frame: the count stays, and which frame may go out is known beforehand.
+-- Laws of what the host does next on a frame: the count of frames sent stays, and which frame may go out is known beforehand.
 use Prim.Native.Nat.{ℕ, _+_, _%_, _<_}
 use mathlib.Core.Path.{_≡_, refl}
 use mathlib.Core.Bool.{true, _&&_}

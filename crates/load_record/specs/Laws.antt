@@ -7,7 +7,7 @@ use Rattle.load_record.specs.declared.Session.{Session}
 use Rattle.load_record.specs.declared.Next.{Next}
 use Rattle.load_record.specs.Record.{ignores, tallied}
 
--- the count stays, and what goes out is frame i, one of N
+-- the count of frames sent stays, and what goes out is frame i, one of N
 pub record Bound (N i : ℕ) (h : Session) (next : Next) : Type 0 where
   pub counted : next .session .sent ≡ h .sent
   pub place : next .sends ≡ true → next .session .position ≡ i

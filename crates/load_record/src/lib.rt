@@ -30,7 +30,7 @@ pub struct Session {
     pub verdict: u8,
 }
 
-// What it does next: its record but for the counts, and whether the frame at the record's position goes out.
+// What it does next: its record, of which `tallied` raises a count, and whether the frame at the record's position goes out.
 pub struct Next {
     pub session: Session,
     pub sends: bool,

@@ -1,4 +1,4 @@
--- Laws of what the host does next on a timer: the count stays, and only the frame on its way goes out.
+-- Laws of what the host does next on a timer: the count of frames sent stays, and only the frame on its way goes out.
 use Prim.Native.Nat.{ℕ, _<_}
 use mathlib.Core.Path.{_≡_, refl}
 use lib.Dec.{eqb, ltb}

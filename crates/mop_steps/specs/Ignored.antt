@@ -2,12 +2,9 @@
 -- dump that run count a frame that does nothing as ignored.
 use Prim.Native.Nat.{ℕ}
 use mathlib.Core.Path.{_≡_}
-use mathlib.Core.Bool.{cond as pick}
 use mathlib.Core.List.{List}
-use lib.Dec.{eqb}
 use Rattle.step.specs.Step.{Outcome, ignores, gives}
-use Rattle.counts.specs.declared.Counts.{Counts}
-use Rattle.counts.specs.Counts.{ignore}
+use Rattle.counts.specs.Counts.{passed}
 use Rattle.machine_record.specs.declared.Machine.{Machine}
 use Rattle.load_record.specs.declared.Session.{Session as Load}
 use Rattle.load_record.specs.Record as load
@@ -38,9 +35,6 @@ abbrev pub Seen : {H B : Type 0} → (H → ℕ) → H → B → List ℕ → Ou
 Seen mark h lent reply o = Leaving mark h h lent reply o
 
 -- the record of a load or a dump with a frame ignored, counted while it runs
-abbrev passed : ℕ → Counts → Counts
-passed verdict c = pick (eqb verdict 0) (ignore c) c
-
 abbrev pub loadPassed : Load → Load
 loadPassed h = load.counting (passed (h .verdict) (h .counts)) h
 

@@ -37,7 +37,7 @@ const FOR_DUMP: [&[u8]; 8] = [
     &[16],
 ];
 
-/// Those of a load of two segments, with the mark of a string or without.
+/// Records of a load of two segments, with the mark of a string or without.
 fn load_records(mark: u8) -> [mop_proved::Load; 8] {
     [
         load::waiting(0),

@@ -1,5 +1,4 @@
 -- `counts::tally` meets its contract.
-use Prim.Native.Nat.{_<_, _≤_}
 use mathlib.Core.Path.{_≡_, refl, sym, _∙_}
 use mathlib.Core.Bool.{true, false, false≢true}
 use native.Mathlib.Omega.{arith}
@@ -55,53 +54,45 @@ returns-3 c =
     let test = sym (c .before .before .begins .ensures) ∙ c .before .if3 .taken in
     counted (a .before) (a .after) (a .counts) good (sym (first (a .before) (a .after) (a .counts) (omega arith) test))
 
+-- past the test of the waiting: there is room, and the waiting did not end
+past : (c : tie.Else3)
+    → let a = c .before .before .before .before .before .before .args in (below (a .counts) ≡ true) × (begins (a .before) (a .after) ≡ false)
+past c =
+    let called = c .before .before .before .before .before in
+    (sym (called .below .ensures) ∙ not-false _ (c .before .before .before .before .if1 .left), sym (c .before .begins .ensures) ∙ c .if3 .left)
+
 add-next-2 : tie.Need-add-next-2
 add-next-2 c =
-    let begun = c .before .before .before .before .before in
-    let called = begun .before .before .before .before in
-    let good = sym (called .below .ensures) ∙ not-false _ (begun .before .before .before .if1 .left) in
-    omega (arith, each-below (called .before .args .counts) good)
+    let went = c .before .before .before .before in
+    omega (arith, each-below (went .before .before .before .before .before .before .args .counts) (past went .0))
 
 returns-4 : tie.Need-returns-4
 returns-4 c =
-    let begun = c .before .before .before .before .before in
-    let called = begun .before .before .before .before in
-    let a = called .before .args in
-    let good = sym (called .below .ensures) ∙ not-false _ (begun .before .before .before .if1 .left) in
-    let test = sym (begun .begins .ensures) ∙ c .before .before .before .before .if3 .left in
-    counted (a .before) (a .after) (a .counts) good (sym (further (a .before) (a .after) (a .counts) (omega arith) test (omega arith)))
+    let went = c .before .before .before .before in
+    let a = went .before .before .before .before .before .before .args in
+    counted (a .before) (a .after) (a .counts) (past went .0) (sym (further (a .before) (a .after) (a .counts) (omega arith) (past went .1) (omega arith)))
 
 add-next-3 : tie.Need-add-next-3
 add-next-3 c =
-    let begun = c .before .before .before .before .before .before .before in
-    let called = begun .before .before .before .before in
-    let good = sym (called .below .ensures) ∙ not-false _ (begun .before .before .before .if1 .left) in
-    omega (arith, each-below (called .before .args .counts) good)
+    let went = c .before .before .before .before .before .before in
+    omega (arith, each-below (went .before .before .before .before .before .before .args .counts) (past went .0))
 
 returns-5 : tie.Need-returns-5
 returns-5 c =
-    let begun = c .before .before .before .before .before .before .before in
-    let called = begun .before .before .before .before in
-    let a = called .before .args in
-    let good = sym (called .below .ensures) ∙ not-false _ (begun .before .before .before .if1 .left) in
-    let test = sym (begun .begins .ensures) ∙ c .before .before .before .before .before .before .if3 .left in
-    counted (a .before) (a .after) (a .counts) good (sym (rejecting (a .before) (a .after) (a .counts) (omega arith) test (omega arith) (omega arith)))
+    let went = c .before .before .before .before .before .before in
+    let a = went .before .before .before .before .before .before .args in
+    counted (a .before) (a .after) (a .counts) (past went .0) (sym (rejecting (a .before) (a .after) (a .counts) (omega arith) (past went .1) (omega arith) (omega arith)))
 
 add-next-4 : tie.Need-add-next-4
 add-next-4 c =
-    let begun = c .before .before .before .before .before .before .before in
-    let called = begun .before .before .before .before in
-    let good = sym (called .below .ensures) ∙ not-false _ (begun .before .before .before .if1 .left) in
-    omega (arith, each-below (called .before .args .counts) good)
+    let went = c .before .before .before .before .before .before in
+    omega (arith, each-below (went .before .before .before .before .before .before .args .counts) (past went .0))
 
 returns-6 : tie.Need-returns-6
 returns-6 c =
-    let begun = c .before .before .before .before .before .before .before in
-    let called = begun .before .before .before .before in
-    let a = called .before .args in
-    let good = sym (called .below .ensures) ∙ not-false _ (begun .before .before .before .if1 .left) in
-    let test = sym (begun .begins .ensures) ∙ c .before .before .before .before .before .before .if3 .left in
-    counted (a .before) (a .after) (a .counts) good (sym (ignoring (a .before) (a .after) (a .counts) (omega arith) test (omega arith) (λ e. omega arith)))
+    let went = c .before .before .before .before .before .before in
+    let a = went .before .before .before .before .before .before .args in
+    counted (a .before) (a .after) (a .counts) (past went .0) (sym (ignoring (a .before) (a .after) (a .counts) (omega arith) (past went .1) (omega arith) (λ e. omega arith)))
 
 pub tally-spec : {M : Type 1} → statement M
 tally-spec =
