@@ -109,7 +109,7 @@ module _ {H M : Type 0} where
   onFirst w (f ∷ q) event = event f q
 
   module _ {X : Type 0} (ends : Ends H M X) where
-    -- how many to be counted a frame is
+    -- 1 for a frame that is to be counted, else 0
     abbrev pub counts : H → Frame → ℕ
     counts h f = pick (ends .hears h f) 1 0
 
