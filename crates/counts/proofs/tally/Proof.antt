@@ -6,7 +6,7 @@ use borrow.Author.Needs.{needs}
 use borrow.Author.Tests.{not-true, not-false}
 use Rattle.counts.specs.declared.Counts.{Counts}
 use Rattle.counts.specs.declared.Standing.{Standing}
-use Rattle.counts.specs.Counts.{below, begins, tally}
+use Rattle.counts.specs.Counts.{below, start, advance, ignore, reject, begins, tally}
 use Rattle.counts.specs.Laws.{each-below, over, first, further, rejecting, ignoring}
 use Rattle.counts.proofs.tally.Statement.{statement}
 use Rattle.counts.proofs.tally.Tie as tie
@@ -15,12 +15,20 @@ use Rattle.counts.proofs.tally.Tie as tie
 abbrev Answers : Standing → Standing → Counts → Counts → Type 0
 Answers before after counts r = (below counts ≡ true → r ≡ tally before after counts) × (below counts ≡ false → r ≡ counts)
 
+-- counts are the same if each one is
+same : (c d : Counts) → c .starts ≡ d .starts → c .advances ≡ d .advances → c .ignored ≡ d .ignored → c .rejections ≡ d .rejections → c ≡ d
+same c d s a i j =
+    let each : _≡_ {A = Counts} (record { starts = c .starts; advances = c .advances; ignored = c .ignored; rejections = c .rejections })
+    (record { starts = d .starts; advances = d .advances; ignored = d .ignored; rejections = d .rejections }) = rw (s, a, i, j) in
+    each
+
 module _ (before after : Standing) (counts : Counts) where
   full : below counts ≡ false → Answers before after counts counts
   full n = (λ b. absurd (false≢true (sym n ∙ b)), λ _. refl)
 
-  counted : {r : Counts} → below counts ≡ true → r ≡ tally before after counts → Answers before after counts r
-  counted b e = (λ _. e, λ n. absurd (false≢true (sym n ∙ b)))
+  counted : {r : Counts} (d : Counts) → below counts ≡ true → tally before after counts ≡ d → r .starts ≡ d .starts → r .advances ≡ d .advances
+      → r .ignored ≡ d .ignored → r .rejections ≡ d .rejections → Answers before after counts r
+  counted {r} d b t s a i j = (λ _. same r d s a i j ∙ sym t, λ n. absurd (false≢true (sym n ∙ b)))
 
 below-requires : tie.Need-below-requires
 below-requires c κs = search needs
@@ -35,7 +43,7 @@ returns-2 c =
     let called = c .before .before .before in
     let a = called .before .args in
     let good = sym (called .below .ensures) ∙ not-false _ (c .before .before .if1 .left) in
-    counted (a .before) (a .after) (a .counts) good (sym (over (a .before) (a .after) (a .counts) (λ e. omega arith)))
+    counted (a .before) (a .after) (a .counts) (a .counts) good (over (a .before) (a .after) (a .counts) (λ e. omega arith)) (omega arith) (omega arith) (omega arith) (omega arith)
 
 begins-requires : tie.Need-begins-requires
 begins-requires c κs = search needs
@@ -52,7 +60,7 @@ returns-3 c =
     let a = called .before .args in
     let good = sym (called .below .ensures) ∙ not-false _ (c .before .before .before .before .before .if1 .left) in
     let test = sym (c .before .before .begins .ensures) ∙ c .before .if3 .taken in
-    counted (a .before) (a .after) (a .counts) good (sym (first (a .before) (a .after) (a .counts) (omega arith) test))
+    counted (a .before) (a .after) (a .counts) (start (a .counts)) good (first (a .before) (a .after) (a .counts) (omega arith) test) (omega arith) (omega arith) (omega arith) (omega arith)
 
 -- past the test of the waiting: there is room, and the waiting did not end
 past : (c : tie.Else3)
@@ -70,7 +78,8 @@ returns-4 : tie.Need-returns-4
 returns-4 c =
     let went = c .before .before .before .before in
     let a = went .before .before .before .before .before .before .args in
-    counted (a .before) (a .after) (a .counts) (past went .0) (sym (further (a .before) (a .after) (a .counts) (omega arith) (past went .1) (omega arith)))
+    counted (a .before) (a .after) (a .counts) (advance (a .counts)) (past went .0) (further (a .before) (a .after) (a .counts) (omega arith) (past went .1) (omega arith))
+    (omega arith) (omega arith) (omega arith) (omega arith)
 
 add-next-3 : tie.Need-add-next-3
 add-next-3 c =
@@ -81,7 +90,8 @@ returns-5 : tie.Need-returns-5
 returns-5 c =
     let went = c .before .before .before .before .before .before in
     let a = went .before .before .before .before .before .before .args in
-    counted (a .before) (a .after) (a .counts) (past went .0) (sym (rejecting (a .before) (a .after) (a .counts) (omega arith) (past went .1) (omega arith) (omega arith)))
+    counted (a .before) (a .after) (a .counts) (reject (a .counts)) (past went .0) (rejecting (a .before) (a .after) (a .counts) (omega arith) (past went .1) (omega arith) (omega arith))
+    (omega arith) (omega arith) (omega arith) (omega arith)
 
 add-next-4 : tie.Need-add-next-4
 add-next-4 c =
@@ -92,7 +102,8 @@ returns-6 : tie.Need-returns-6
 returns-6 c =
     let went = c .before .before .before .before .before .before in
     let a = went .before .before .before .before .before .before .args in
-    counted (a .before) (a .after) (a .counts) (past went .0) (sym (ignoring (a .before) (a .after) (a .counts) (omega arith) (past went .1) (omega arith) (λ e. omega arith)))
+    counted (a .before) (a .after) (a .counts) (ignore (a .counts)) (past went .0) (ignoring (a .before) (a .after) (a .counts) (omega arith) (past went .1) (omega arith) (λ e. omega arith))
+    (omega arith) (omega arith) (omega arith) (omega arith)
 
 pub tally-spec : {M : Type 1} → statement M
 tally-spec =
