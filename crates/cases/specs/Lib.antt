@@ -1,5 +1,6 @@
 pub mod Cases
 pub mod LoadExample
+pub mod ResetExample
 pub mod ParametersExample
 pub mod DumpExample
 pub mod WindowExample

@@ -23,14 +23,14 @@ use Rattle.version.specs.Version.{v30}
 use Rattle.load_record.specs.declared.Settings.{Settings as LoadSettings}
 use Rattle.load_record.specs.declared.Session.{Session}
 use Rattle.load_checks.specs.Checks.{stringRefusal}
-use Rattle.link.specs.Link.{World, Event, own, handToMachine, dropToMachine, handToHost, hostTimer, run}
+use Rattle.link.specs.Link.{World, Event, own, handToMachine, dropToMachine, handToHost, hostTimer, lastLeft, run}
 use Rattle.link.specs.MachineEnd.{End}
-use Rattle.link_load.specs.Model.{loadEnds, freshWorld, after}
+use Rattle.link_load.specs.Model.{Reset, loadEnds, freshWorld, after}
 use Rattle.link_load.specs.Audit.{parameters-load}
 use Rattle.cases.specs.LoadExample.{image, machineSettings, accepted, bytes}
 
 abbrev pub loadSettings : LoadSettings
-loadSettings = record { «segment_size» = 2; repeats = 1; «with_parameters» = 1; version = v30 }
+loadSettings = record { «segment_size» = 2; repeats = 1; «with_parameters» = 1; version = v30; restart = 0 }
 
 -- target name MILL, host address 03-04, target name AL
 unfoldable pub string : List ℕ
@@ -40,7 +40,7 @@ abbrev reply : List ℕ
 reply = replicate 1500 0
 
 -- t h t h t x m h t
-unfoldable pub events : List (Event ⊥)
+unfoldable pub events : List (Event (Reset loadSettings))
 events =
     own (handToHost reply) ∷ own (handToMachine reply) ∷ own (handToHost reply) ∷ own (handToMachine reply) ∷ own (handToHost reply) ∷
     own dropToMachine ∷ own (hostTimer reply) ∷ own (handToMachine reply) ∷ own (handToHost reply) ∷ []
@@ -55,7 +55,7 @@ absent = record { length = 0; bytes = replicate 16 0 }
 -- what is left at the end: the second name alone is kept, and nothing of the longer first one; types 2, 3 and 5 are absent
 pub worked : run (loadEnds loadSettings machineSettings image string) (freshWorld machineSettings (replicate 8 0)) events
     ≡ record {
-      host = record { position = 3; sent = 4; counts = record { starts = 1; advances = 3; ignored = 0; rejections = 0 }; repeats = 0; waiting = 0; verdict = 1 };
+      host = record { position = 3; sent = 4; counts = record { starts = 1; advances = 3; ignored = 0; rejections = 0 }; repeats = 0; restarts = 0; waiting = 0; verdict = 1 };
       machine =
           record {
             machine =
@@ -82,5 +82,6 @@ unfolding string first walk next
 good = refl
 
 pub worked-holds : Holds v30 (after loadSettings machineSettings image string (replicate 8 0) events .machine .machine .parameters) string
+unfolding events lastLeft
 worked-holds =
-    parameters-load loadSettings machineSettings image string (replicate 8 0) accepted bytes good refl events (ap (λ (w : World Session End). w .host .verdict) worked)
+    parameters-load loadSettings machineSettings image string (replicate 8 0) accepted bytes good refl refl events (ap (λ (w : World Session End). w .host .verdict) worked) refl

@@ -29,13 +29,13 @@ use Rattle.load_record.specs.declared.Session.{Session}
 use Rattle.load_checks.specs.Checks.{stringRefusal}
 use Rattle.link.specs.Link.{World, Event, own, handToMachine, keepToMachine, handToHost, run}
 use Rattle.link.specs.MachineEnd.{End}
-use Rattle.link_load.specs.Model.{loadEnds, freshWorld, after}
+use Rattle.link_load.specs.Model.{Reset, loadEnds, freshWorld, after}
 use Rattle.link_load.specs.Report.{Loaded, Spelled}
-use Rattle.link_load.specs.Audit.{finished-load, block-load}
+use Rattle.link_load.specs.Audit.{finished-once, block-load}
 use Rattle.cases.specs.LoadExample.{image, accepted, bytes}
 
 abbrev pub loadSettings : LoadSettings
-loadSettings = record { «segment_size» = 2; repeats = 1; «with_parameters» = 1; version = v21 }
+loadSettings = record { «segment_size» = 2; repeats = 1; «with_parameters» = 1; version = v21; restart = 0 }
 
 abbrev pub machineWith : Window → MachineSettings
 machineWith window = record { «reply_bytes» = 1; device = 0; processor = 0; version = v21; window = window }
@@ -51,7 +51,7 @@ abbrev reply : List ℕ
 reply = replicate 1500 0
 
 -- t h t h t k h t: the code 20 is handed over twice
-unfoldable pub events : List (Event ⊥)
+unfoldable pub events : List (Event (Reset loadSettings))
 events =
     own (handToHost reply) ∷ own (handToMachine reply) ∷ own (handToHost reply) ∷ own (handToMachine reply) ∷ own (handToHost reply) ∷
     own (keepToMachine reply) ∷ own (handToMachine reply) ∷ own (handToHost reply) ∷ []
@@ -60,7 +60,7 @@ events =
 -- do the old bytes behind it; the host name AL and four spaces. A started machine ignores the code 20 that comes again.
 pub worked : run (loadEnds loadSettings machineSettings image string) (freshWorld machineSettings (replicate 64 7)) events
     ≡ record {
-      host = record { position = 3; sent = 3; counts = record { starts = 1; advances = 3; ignored = 0; rejections = 0 }; repeats = 0; waiting = 0; verdict = 1 };
+      host = record { position = 3; sent = 3; counts = record { starts = 1; advances = 3; ignored = 0; rejections = 0 }; repeats = 0; restarts = 0; waiting = 0; verdict = 1 };
       machine =
           record {
             machine = started (kept string) 2;
@@ -92,10 +92,10 @@ started-up : machine.is 4 (after loadSettings machineSettings image string (repl
 started-up = ap (λ (w : World Session End). machine.is 4 (w .machine .machine)) worked
 
 pub worked-loaded : Loaded loadSettings machineSettings image string (replicate 64 7) (after loadSettings machineSettings image string (replicate 64 7) events .machine)
-worked-loaded = finished-load loadSettings machineSettings image string (replicate 64 7) accepted bytes good events finished
+worked-loaded = finished-once loadSettings machineSettings image string (replicate 64 7) accepted bytes good refl (λ q. omega arith) events finished
 
 pub worked-spelled : Spelled string 0 (after loadSettings machineSettings image string (replicate 64 7) events .machine .memory)
-worked-spelled = block-load loadSettings machineSettings image string (replicate 64 7) accepted bytes good refl refl events started-up
+worked-spelled = block-load loadSettings machineSettings image string (replicate 64 7) accepted bytes good refl refl refl events started-up
 
 -- With a window of one byte at 6, which the block would leave as it is, the code 20 does not fit: nothing is written or kept, and both answers
 -- have error 1.
@@ -104,7 +104,7 @@ touched = machineWith (record { start = 6; length = 1 })
 
 pub rejected : run (loadEnds loadSettings touched image string) (freshWorld touched (replicate 64 7)) events
     ≡ record {
-      host = record { position = 2; sent = 3; counts = record { starts = 1; advances = 2; ignored = 0; rejections = 1 }; repeats = 0; waiting = 0; verdict = 2 };
+      host = record { position = 2; sent = 3; counts = record { starts = 1; advances = 2; ignored = 0; rejections = 1 }; repeats = 0; restarts = 0; waiting = 0; verdict = 2 };
       machine = record { machine = loading none 3 1; memory = 7 ∷ 7 ∷ 0x0A ∷ 0x0B ∷ 0x0C ∷ replicate 59 7 };
       toMachine = [];
       toHost = (0x0A ∷ 0x03 ∷ 0x01 ∷ []) ∷ [];
@@ -115,6 +115,6 @@ unfolding image string events run number low find fields layout first trailerOf 
 rejected = refl
 
 -- and no list of events whatever makes it finished
-pub never-finished : (es : List (Event ⊥)) → after loadSettings touched image string (replicate 64 7) es .host .verdict ≡ 1 → ⊥
+pub never-finished : (es : List (Event (Reset loadSettings))) → after loadSettings touched image string (replicate 64 7) es .host .verdict ≡ 1 → ⊥
 never-finished es e =
-    finished-load loadSettings touched image string (replicate 64 7) accepted bytes good es e .block-clear refl 6 (omega arith, omega arith) (omega arith, omega arith)
+    finished-once loadSettings touched image string (replicate 64 7) accepted bytes good refl (λ q. omega arith) es e .block-clear refl 6 (omega arith, omega arith) (omega arith, omega arith)

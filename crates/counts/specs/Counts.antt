@@ -1,6 +1,6 @@
 -- What the frames came to that the host of a load or of a dump was handed (PROTOCOL 5, 'Host end', counts).
 use Prim.Native.Nat.{ℕ, _+_}
-use mathlib.Core.Bool.{Bool, _&&_, cond as pick}
+use mathlib.Core.Bool.{Bool, _&&_, _||_, cond as pick}
 use lib.Dec.{eqb, ltb}
 use Rattle.counts.specs.declared.Counts.{Counts}
 use Rattle.counts.specs.declared.Standing.{Standing}
@@ -37,12 +37,12 @@ ignore c = record { starts = c .starts; advances = c .advances; ignored = c .ign
 abbrev pub reject : Counts → Counts
 reject c = record { starts = c .starts; advances = c .advances; ignored = c .ignored; rejections = c .rejections + 1 }
 
--- the waiting is over
+-- the waiting is over, or the load begins again
 abbrev pub begins : Standing → Standing → Bool
-begins before after = eqb (before .waiting) 1 && eqb (after .waiting) 0
+begins before after = ltb (before .restarts) (after .restarts) || (eqb (before .waiting) 1 && eqb (after .waiting) 0)
 
--- Which count a frame raises, seen from where the session stood before it and stands after it: starts if it ended the waiting; advances if
--- more is reached; rejections if the verdict became 2; otherwise ignored. After the verdict none.
+-- Which count a frame raises, seen from where the session stood before it and stands after it: starts if it ended the waiting or began the
+-- load again; advances if more is reached; rejections if the verdict became 2; otherwise ignored. After the verdict none.
 abbrev pub tally : Standing → Standing → Counts → Counts
 tally before after c =
     pick (eqb (before .verdict) 0)

@@ -1,7 +1,7 @@
 -- Laws of the counts: which one a frame raises in each case, and that it is one.
 use Prim.Native.Nat.{ℕ, _+_, _<_, _≤_}
 use mathlib.Core.Path.{_≡_, refl}
-use mathlib.Core.Bool.{Bool, true, false, _&&_, cond as pick}
+use mathlib.Core.Bool.{Bool, true, false, _&&_, _||_, cond as pick}
 use native.Mathlib.Omega.{arith}
 use lib.Dec.{eqb, ltb}
 use borrow.Author.Tests.{eq-eqb, ne-eqb, eqb-true, eqb-false, lt-ltb, le-ltb, ltb-true}
@@ -67,8 +67,8 @@ one-more before after c = go (eqb (before .verdict) 0)
     go false = omega arith
 
 -- a frame that leaves the session where it stands is ignored
-standing-still : (w : ℕ) → (eqb w 1 && eqb w 0) ≡ false
-standing-still w = go (eqb w 1) refl
+standing-still : (r w : ℕ) → ltb r r || (eqb w 1 && eqb w 0) ≡ false
+standing-still r w = rw (le-ltb r r (omega arith)) (go (eqb w 1) refl)
   where
     go : (b : Bool) → eqb w 1 ≡ b → (b && eqb w 0) ≡ false
     go true e = ne-eqb w 0 (omega (arith, eqb-true w 1 e))
@@ -80,5 +80,5 @@ unmoved x c = go (eqb (x .verdict) 0) refl
     go : (b : Bool) → eqb (x .verdict) 0 ≡ b → tally x x c ≡ pick b (ignore c) c
     go true e =
         let v = eqb-true (x .verdict) 0 e in
-        ignoring x x c v (standing-still (x .waiting)) (omega arith) (omega arith)
+        ignoring x x c v (standing-still (x .restarts) (x .waiting)) (omega arith) (omega arith)
     go false e = over x x c (eqb-false (x .verdict) 0 e)

@@ -6,7 +6,7 @@ ghost use Rattle.counts.specs.Counts.{zero, below, onlyIgnored, begins, 
 // A record with a count as high is bad.
 pub const TOP: u64 = 18446744073709551615;
 
-// The frames that ended the waiting, moved the session on, moved nothing, and rejected it.
+// The frames that ended the waiting or began a load again, moved the session on, moved nothing, and rejected it.
 #[repr(C)]
 pub struct Counts {
     pub starts: u64,
@@ -15,9 +15,11 @@ pub struct Counts {
     pub rejections: u64,
 }
 
-// Where a session stands: c of a load, the bytes filled of a dump; whether it waits; the verdict.
+// Where a session stands: c of a load, the bytes filled of a dump; how often a load began again; whether it waits; the
+// verdict.
 pub struct Standing {
     pub reached: u64,
+    pub restarts: u32,
     pub waiting: u8,
     pub verdict: u8,
 }
@@ -63,10 +65,13 @@ pub fn only_ignored(counts: Counts) -> bool
     counts.rejections == 0
 }
 
-// Whether the waiting is over.
+// Whether the waiting is over, or the load begins again.
 fn begins(before: Standing, after: Standing) -> bool
     ensures { λ r. ⌜ r ≡ begins before after ⌝ }
 {
+    if before.restarts < after.restarts {
+        return true;
+    }
     if before.waiting != 1 {
         return false;
     }

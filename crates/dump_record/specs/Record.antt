@@ -51,9 +51,9 @@ completes h verdict takes = record { session = ended h verdict; takes = takes; s
 abbrev pub running : Session → Next → Next
 running h n = pick (eqb (h .verdict) 0) n (ignores h)
 
--- where it stands, for the counts: the bytes filled, the waiting mark, the verdict
+-- where it stands, for the counts: the bytes filled, the waiting mark, the verdict; a dump does not begin again
 abbrev pub standing : Session → Standing
-standing h = record { reached = h .filled; waiting = h .waiting; verdict = h .verdict }
+standing h = record { reached = h .filled; restarts = 0; waiting = h .waiting; verdict = h .verdict }
 
 -- this record with other counts, and what is done next with them
 abbrev pub counting : Counts → Session → Session

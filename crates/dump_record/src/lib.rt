@@ -122,6 +122,7 @@ pub fn standing(h: Session) -> Standing
 {
     Standing {
         reached: h.filled,
+        restarts: 0,
         waiting: h.waiting,
         verdict: h.verdict,
     }

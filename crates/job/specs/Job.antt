@@ -14,11 +14,12 @@ use Rattle.job.specs.declared.Job.{Job}
 use Rattle.version.specs.Version.{v30}
 use Rattle.window.specs.Window.{none}
 
--- the settings of both ends: there is no parameter string and no ROM window, device and processor are 0, and D plays no part in a load
+-- the settings of both ends: there is no parameter string, no restart and no ROM window, device and processor are 0, and D plays no part in
+-- a load
 abbrev pub setup : Script → Setup
 setup t =
     record {
-      host = record { «segment_size» = t .«segment_size»; repeats = t .repeats; «with_parameters» = 0; version = v30 };
+      host = record { «segment_size» = t .«segment_size»; repeats = t .repeats; «with_parameters» = 0; version = v30; restart = 0 };
       machine = record { «reply_bytes» = 1495; device = 0; processor = 0; version = v30; window = none };
     }
 

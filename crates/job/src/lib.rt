@@ -41,7 +41,8 @@ pub struct Moved {
     pub sent: usize,
 }
 
-// The settings of both ends: without a parameter string or a ROM window. The machine's dump setting plays no part in a load.
+// The settings of both ends: without a parameter string, restarts or a ROM window. The machine's dump setting plays no part
+// in a load.
 fn prepare(script: Script) -> Setup
     ensures { λ r. ⌜ r ≡ setup script ⌝ }
 {
@@ -51,6 +52,7 @@ fn prepare(script: Script) -> Setup
             repeats: script.repeats,
             with_parameters: 0,
             version: version::V3_0,
+            restart: 0,
         },
         machine: machine_record::Settings {
             reply_bytes: 1495,

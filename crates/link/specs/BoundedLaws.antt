@@ -3,9 +3,9 @@ use Prim.Native.Nat.{ℕ, zero, suc}
 use mathlib.Core.Path.{_≡_, refl, sym, subst, _∙_}
 use mathlib.Core.List.{List, [], _∷_, _++_, append-nil}
 use lib.ListN.{take, drop, take-append-drop}
-use Rattle.link.specs.Link.{Frame, Turn, refuses, acts, World, Ends, Event, own, further, handToMachine, keepToMachine, dropToMachine, handToHost, keepToHost, dropToHost, hostTimer, machineTimer, Own, machineTurn, hostTurn, withToMachine, withToHost, counts, ownStep, step, run}
-use Rattle.link.specs.LinkLaws.{handedToMachine, keptToMachine, droppedToMachine, handedToHost, keptToHost, droppedToHost, Lost, here, there, Closed, kept-any}
-use Rattle.link.specs.Bounded.{within, runWithin, Alike}
+use Rattle.link.specs.Link.{Frame, Turn, refuses, acts, World, Ends, Event, own, further, handToMachine, keepToMachine, dropToMachine, handToHost, keepToHost, dropToHost, hostTimer, machineTimer, Own, machineTurn, hostTurn, withToMachine, withToHost, Left, left, lastLeft, counts, ownStep, step, run}
+use Rattle.link.specs.LinkLaws.{handedToMachine, keptToMachine, droppedToMachine, handedToHost, keptToHost, droppedToHost, Lost, here, there, Closed, kept as kept-own, kept-any}
+use Rattle.link.specs.Bounded.{within, stepWithin, runWithin, Alike}
 
 -- A queue, and what is left of it when some of its frames are lost.
 pub data Thinned : List Frame → List Frame → Type 0 where
@@ -33,8 +33,9 @@ cut (suc n) none = none
 cut (suc n) (kept t) = kept (cut n t)
 cut (suc n) (lost t) = lost (cut (suc n) t)
 
-module _ {H M : Type 0} (ends : Ends H M ⊥) where
-  run-joined : (w : World H M) (es fs : List (Event ⊥)) → run ends w (es ++ fs) ≡ run ends (run ends w es) fs
+-- with further events that make the same of two worlds that differ in their queues alone
+module _ {H M X : Type 0} (ends : Ends H M X) (blind : (w v : World H M) (x : X) → Alike w v → ends .further w x ≡ ends .further v x) where
+  run-joined : (w : World H M) (es fs : List (Event X)) → run ends w (es ++ fs) ≡ run ends (run ends w es) fs
   unfolding run
   run-joined w [] fs = refl
   run-joined w (e ∷ es) fs = run-joined (step ends w e) es fs
@@ -45,16 +46,19 @@ module _ {H M : Type 0} (ends : Ends H M ⊥) where
     toMachine : Thinned (w .toMachine) (v .toMachine)
     toHost : Thinned (w .toHost) (v .toHost)
 
+  beside-self : (w : World H M) → Beside w w
+  beside-self w = record { alike = (refl, refl, refl, refl); toMachine = whole (w .toMachine); toHost = whole (w .toHost) }
+
   -- one world comes beside another by events of the link
   abbrev Comes : World H M → World H M → Type 0
-  Comes w v = (es : List (Event ⊥)) × Beside (run ends w es) v
+  Comes w v = (es : List (Event X)) × Beside (run ends w es) v
 
   at-once : {w v : World H M} → Beside w v → Comes w v
   unfolding run
   at-once b = ([], b)
 
   -- by some events, and then by others
-  then : (w : World H M) (es : List (Event ⊥)) {u v : World H M} → run ends w es ≡ u → Comes u v → Comes w v
+  then : (w : World H M) (es : List (Event X)) {u v : World H M} → run ends w es ≡ u → Comes u v → Comes w v
   then w es {u} {v} e c = (es ++ c .0, subst (λ (x : World H M). Beside x v) (sym (run-joined w es (c .0) ∙ (rw e))) (c .1))
 
   -- ---- one event
@@ -82,16 +86,16 @@ module _ {H M : Type 0} (ends : Ends H M ⊥) where
       (host-acts w v (n (w .host)) q r (call (w .host)) b t)
 
   -- the frames before the first one that is left are dropped: the first frame is then the same
-  record Front (q : List Frame) (f : Frame) (r : List Frame) (drops : List Frame → List (Event ⊥) → List Frame → Type 0) : Type 0 where
-    events : List (Event ⊥)
+  record Front (q : List Frame) (f : Frame) (r : List Frame) (drops : List Frame → List (Event X) → List Frame → Type 0) : Type 0 where
+    events : List (Event X)
     rest : List Frame
     reached : drops q events (f ∷ rest)
     thinned : Thinned rest r
 
-  abbrev DropsToMachine : List Frame → List (Event ⊥) → List Frame → Type 0
+  abbrev DropsToMachine : List Frame → List (Event X) → List Frame → Type 0
   DropsToMachine q es p = (w : World H M) → run ends (withToMachine w q) es ≡ withToMachine w p
 
-  abbrev DropsToHost : List Frame → List (Event ⊥) → List Frame → Type 0
+  abbrev DropsToHost : List Frame → List (Event X) → List Frame → Type 0
   DropsToHost q es p = (w : World H M) → run ends (withToHost w q) es ≡ withToHost w p
 
   front-to-machine : {q : List Frame} {f : Frame} {r : List Frame} → Thinned q (f ∷ r) → Front q f r DropsToMachine
@@ -153,7 +157,7 @@ module _ {H M : Type 0} (ends : Ends H M ⊥) where
     dropped-to-host [] e = at-once b
     dropped-to-host (f ∷ r) e = to-host dropToHost f r _ e (λ q t x. record { alike = x .alike; toMachine = x .toMachine; toHost = t })
 
-    beside-step : (e : Event ⊥) → Comes w (step ends v e)
+    beside-step : (e : Event X) → Comes w (step ends v e)
     unfolding run
     beside-step (own (handToMachine c)) = handed-to-machine c (v .toMachine) refl
     beside-step (own (keepToMachine c)) = kept-to-machine c (v .toMachine) refl
@@ -165,13 +169,13 @@ module _ {H M : Type 0} (ends : Ends H M ⊥) where
         (own (hostTimer c) ∷ [], host-turn w v (λ h. 0) (w .toHost) (v .toHost) (λ h. ends .hostTimer h c) b (b .toHost))
     beside-step (own (machineTimer c)) =
         (own (machineTimer c) ∷ [], machine-turn w v (w .toMachine) (v .toMachine) (λ m. ends .machineTimer m c) b (b .toMachine))
-    beside-step (further x) = absurd x
+    beside-step (further x) = (further x ∷ [], subst (Beside (ends .further w x)) (blind w v x (b .alike)) (beside-self (ends .further w x)))
 
   -- a queue that loses its last frames stays beside the link's
   beside-within : (n : ℕ) {w v : World H M} → Beside w v → Beside w (within n v)
   beside-within n b = record { alike = (b .alike .0, b .alike .1, b .alike .2, b .alike .3); toMachine = cut n (b .toMachine); toHost = cut n (b .toHost) }
 
-  beside-run : (n : ℕ) (w v : World H M) (es : List (Event ⊥)) → Beside w v → Comes w (runWithin n ends v es)
+  beside-run : (n : ℕ) (w v : World H M) (es : List (Event X)) → Beside w v → Comes w (runWithin n ends v es)
   unfolding runWithin
   beside-run n w v [] b = at-once b
   beside-run n w v (e ∷ es) b =
@@ -179,9 +183,9 @@ module _ {H M : Type 0} (ends : Ends H M ⊥) where
       then w (x .0) refl (beside-run n (run ends w (x .0)) (within n (step ends v e)) es (beside-within n (x .1)))
 
   -- every run of the bounded line is alike to one of the link
-  pub alike-run : (n : ℕ) (w : World H M) (es : List (Event ⊥)) → (fs : List (Event ⊥)) × Alike (run ends w fs) (runWithin n ends w es)
+  pub alike-run : (n : ℕ) (w : World H M) (es : List (Event X)) → (fs : List (Event X)) × Alike (run ends w fs) (runWithin n ends w es)
   alike-run n w es =
-      let x = beside-run n w w es (record { alike = (refl, refl, refl, refl); toMachine = whole (w .toMachine); toHost = whole (w .toHost) }) in
+      let x = beside-run n w w es (beside-self w) in
       (x .0, x .1 .alike)
 
 -- ---- an invariant that withstands the link's own events is kept on the bounded line too: what a full queue loses is one frame after the other
@@ -210,3 +214,17 @@ module _ {H M X : Type 0} (ends : Ends H M X) (Holds : World H M → Type 0) (c 
   unfolding runWithin
   always-within f n w [] h = h
   always-within f n w (e ∷ es) h = always-within f n (within n (step ends w e)) es (kept-within n (step ends w e) (kept-any ends Holds c f w e h))
+
+-- and so is one beside what the last further event left
+module _
+    {H M X : Type 0} (ends : Ends H M X) (Holds : Left H M → World H M → Type 0) (c : (b : Left H M) → Closed ends (Holds b))
+    (f : (b : Left H M) (w : World H M) (x : X) → Holds b w → Holds (left (ends .further w x)) (ends .further w x)) where
+  pub always-left-within : (n : ℕ) (b : Left H M) (w : World H M) (es : List (Event X)) → Holds b w
+      → Holds (lastLeft (stepWithin n ends) b w es) (runWithin n ends w es)
+  unfolding runWithin lastLeft
+  always-left-within n b w [] h = h
+  always-left-within n b w (own e ∷ es) h =
+      always-left-within n b (stepWithin n ends w (own e)) es (kept-within ends (Holds b) (c b) n (ownStep ends w e) (kept-own ends (Holds b) (c b) w e h))
+  always-left-within n b w (further x ∷ es) h =
+      let v : World H M = ends .further w x in
+      always-left-within n (left v) (stepWithin n ends w (further x)) es (kept-within ends (Holds (left v)) (c (left v)) n v (f b w x h))

@@ -5,9 +5,10 @@ use native.Mathlib.Omega.{arith}
 use lib.ListN.{length}
 use Rattle.octets.specs.TestLaws.{by-cases}
 use Rattle.link.specs.Link.{Frame, Turn, refuses, acts, World, Ends, Event, own, further, handToMachine, keepToMachine, dropToMachine, handToHost, keepToHost, dropToHost, hostTimer, machineTimer, machineTurn, hostTurn, onFirst, counts, step, run}
-use Rattle.link.specs.Bounded.{within, runWithin}
+use Rattle.link.specs.Bounded.{stepWithin, runWithin}
 
-module _ {H M : Type 0} (ends : Ends H M ⊥) where
+-- with further events that hand over no more than one either
+module _ {H M X : Type 0} (ends : Ends H M X) (more : (w : World H M) (x : X) → ends .further w x .heard ≤ w .heard + 1) where
   at-most-one : (h : H) (f : Frame) → counts ends h f ≤ 1
   at-most-one h f = by-cases (λ (n : ℕ). n ≤ 1) (ends .hears h f) (λ _. omega arith) (λ _. omega arith)
 
@@ -24,7 +25,7 @@ module _ {H M : Type 0} (ends : Ends H M ⊥) where
   on-first w [] event l = omega arith
   on-first w (f ∷ q) event l = l f q
 
-  one-event : (w : World H M) (e : Event ⊥) → step ends w e .heard ≤ w .heard + 1
+  one-event : (w : World H M) (e : Event X) → step ends w e .heard ≤ w .heard + 1
   one-event w (own (handToMachine b)) = on-first w (w .toMachine) _ (λ f q. machine-turn w q (ends .machineFrame (w .machine) f b))
   one-event w (own (keepToMachine b)) = on-first w (w .toMachine) _ (λ f q. machine-turn w (f ∷ q) (ends .machineFrame (w .machine) f b))
   one-event w (own dropToMachine) = on-first w (w .toMachine) _ (λ f q. omega arith)
@@ -33,15 +34,15 @@ module _ {H M : Type 0} (ends : Ends H M ⊥) where
   one-event w (own dropToHost) = on-first w (w .toHost) _ (λ f q. omega arith)
   one-event w (own (hostTimer b)) = host-turn w 0 (w .toHost) (ends .hostTimer (w .host) b) (omega arith)
   one-event w (own (machineTimer b)) = machine-turn w (w .toMachine) (ends .machineTimer (w .machine) b)
-  one-event w (further x) = absurd x
+  one-event w (further x) = more w x
 
   -- of a list of events each hands over one at most
-  pub few : (w : World H M) (es : List (Event ⊥)) → run ends w es .heard ≤ w .heard + length es
+  pub few : (w : World H M) (es : List (Event X)) → run ends w es .heard ≤ w .heard + length es
   unfolding run
   few w [] = omega arith
   few w (e ∷ es) = omega (arith, one-event w e, few (step ends w e) es)
 
-  pub few-within : (n : ℕ) (w : World H M) (es : List (Event ⊥)) → runWithin n ends w es .heard ≤ w .heard + length es
+  pub few-within : (n : ℕ) (w : World H M) (es : List (Event X)) → runWithin n ends w es .heard ≤ w .heard + length es
   unfolding runWithin
   few-within n w [] = omega arith
-  few-within n w (e ∷ es) = omega (arith, one-event w e, few-within n (within n (step ends w e)) es)
+  few-within n w (e ∷ es) = omega (arith, one-event w e, few-within n (stepWithin n ends w e) es)

@@ -2,6 +2,7 @@
 use Prim.Native.Nat.{ℕ, _+_, _≤_, _<_}
 use mathlib.Core.Path.{_≡_, refl}
 use mathlib.Core.List.{List, [], _∷_, _++_}
+use native.Mathlib.Omega.{arith}
 use native.Mathlib.Nat.{le-refl, le-trans, lt-of-lt-of-le, le-of-suc-le-suc}
 use native.Mathlib.Numerals.{add-one, lt-add-one}
 use Rattle.link.specs.Link.{Frame}
@@ -53,6 +54,12 @@ module _ (f : ℕ → Frame) (Passed : ℕ → Type 0) where
   pub then-line : {m lo hi : ℕ} {q : List Frame} (i : ℕ) → lo ≤ i → hi ≤ i + 1 → Line m lo hi q → Line m lo (i + 1) (q ++ (f i ∷ []))
   then-line i l h (clean q) = clean (then f i l h q)
   then-line i l h (leftover j z p q) = leftover j z p (then-line i l h q)
+
+  -- one more frame left over, where there are no others
+  pub then-passed : {m lo : ℕ} {q : List Frame} (j : ℕ) → m ≡ 0 → Passed j → Line m lo lo q → Line m lo lo (q ++ (f j ∷ []))
+  then-passed j z p (clean none) = leftover j z p (clean none)
+  then-passed j z p (clean (more i l h q)) = absurd (omega (arith, l, h))
+  then-passed j z p (leftover k y o q) = leftover k y o (then-passed j z p q)
 
   pub without-line : {m lo hi : ℕ} {q r : List Frame} → Lost q r → Line m lo hi q → Line m lo hi r
   without-line w (clean q) = clean (without f w q)

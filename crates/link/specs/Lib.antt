@@ -5,10 +5,13 @@ pub mod CountedLaws
 pub mod CallLaws
 pub mod FlightLaws
 pub mod NumberedLaws
+pub mod RestartLaws
 pub mod EachLaws
 pub mod AloneLaws
 pub mod MachineEnd
 pub mod MachineEndLaws
+pub mod Reset
+pub mod ResetLaws
 pub mod Unrefused
 pub mod ByteLaws
 pub mod WindowLaws

@@ -45,6 +45,11 @@ pub record World (H M : Type 0) : Type 0 where
   pub taken : ℕ
   pub heard : ℕ
 
+-- The two ends alone, as a further event left them.
+pub record Left (H M : Type 0) : Type 0 where
+  pub host : H
+  pub machine : M
+
 -- Which frames handed to the host are to be counted; the calls of the two ends, on a frame and on a timer, each lent a reply buffer; and what
 -- each event of X does, beside the link's own.
 pub record Ends (H M X : Type 0) : Type 0 where
@@ -102,6 +107,15 @@ module _ {H M : Type 0} where
   abbrev pub withToHost : World H M → List Frame → World H M
   withToHost w q =
       record { host = w .host; machine = w .machine; toMachine = w .toMachine; toHost = q; taken = w .taken; heard = w .heard }
+
+  abbrev pub left : World H M → Left H M
+  left w = record { host = w .host; machine = w .machine }
+
+  -- The ends as the last further event of a list left them, `first` if it has none; `go` is what one event makes of the world.
+  unfoldable pub lastLeft : {X : Type 0} → (World H M → Event X → World H M) → Left H M → World H M → List (Event X) → Left H M
+  lastLeft go first w [] = first
+  lastLeft go first w (own e ∷ es) = lastLeft go first (go w (own e)) es
+  lastLeft go first w (further x ∷ es) = lastLeft go (left (go w (further x))) (go w (further x)) es
 
   -- what an event makes of the first frame of a queue and of those behind it; an event on an empty queue changes nothing
   abbrev pub onFirst : World H M → List Frame → (Frame → List Frame → World H M) → World H M

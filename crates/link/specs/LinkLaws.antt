@@ -1,13 +1,25 @@
 -- An invariant that withstands the link's own events is kept by every run.
 use Prim.Native.Nat.{ℕ}
 use mathlib.Core.Path.{_≡_, refl}
-use mathlib.Core.List.{List, [], _∷_}
-use Rattle.link.specs.Link.{Frame, Turn, refuses, acts, World, Ends, Own, Event, own, further, handToMachine, keepToMachine, dropToMachine, handToHost, keepToHost, dropToHost, hostTimer, machineTimer, machineTurn, hostTurn, withToMachine, withToHost, onFirst, counts, ownStep, step, run}
+use mathlib.Core.List.{List, [], _∷_, map}
+use Rattle.link.specs.Link.{Frame, Turn, refuses, acts, World, Ends, Own, Event, own, further, handToMachine, keepToMachine, dropToMachine, handToHost, keepToHost, dropToHost, hostTimer, machineTimer, machineTurn, hostTurn, withToMachine, withToHost, Left, left, lastLeft, onFirst, counts, ownStep, step, run}
 
 -- A queue, and what is left of it when one frame is lost, from anywhere in it.
 pub data Lost : List Frame → List Frame → Type 0 where
   here : {f : Frame} {q : List Frame} → Lost (f ∷ q) q
   there : {f : Frame} {q r : List Frame} → Lost q r → Lost (f ∷ q) (f ∷ r)
+
+-- where there are no further events, or none in the list, what was first is left
+pub none-left : {H M X : Type 0} → (X → ⊥) → (go : World H M → Event X → World H M) (b : Left H M) (w : World H M) (es : List (Event X)) → lastLeft go b w es ≡ b
+unfolding lastLeft
+none-left empty go b w [] = refl
+none-left empty go b w (own e ∷ es) = none-left empty go b (go w (own e)) es
+none-left empty go b w (further x ∷ es) = absurd (empty x)
+
+pub own-left : {H M X : Type 0} (go : World H M → Event X → World H M) (b : Left H M) (w : World H M) (es : List Own) → lastLeft go b w (map own es) ≡ b
+unfolding lastLeft
+own-left go b w [] = refl
+own-left go b w (e ∷ es) = own-left go b (go w (own e)) es
 
 module _ {H M X : Type 0} (ends : Ends H M X) where
   -- what the events on a queue make of this one
@@ -95,3 +107,25 @@ module _ {H M X : Type 0} (ends : Ends H M X) where
       unfolding run
       always w [] h = h
       always w (e ∷ es) h = always (step ends w e) es (kept-any w e h)
+
+  -- an invariant beside a fact that no event touches, and that its proof may use
+  pub closed-given : (Fact : Type 0) (Holds : World H M → Type 0) → (Fact → Closed Holds) → Closed (λ w. Fact × Holds w)
+  closed-given Fact Holds c =
+      record {
+        keptM = λ w f q b e i. (i .0, c (i .0) .keptM w f q b e (i .1));
+        lostM = λ w q l i. (i .0, c (i .0) .lostM w q l (i .1));
+        keptH = λ w f q b e i. (i .0, c (i .0) .keptH w f q b e (i .1));
+        lostH = λ w q l i. (i .0, c (i .0) .lostH w q l (i .1));
+        timerH = λ w b i. (i .0, c (i .0) .timerH w b (i .1));
+        timerM = λ w b i. (i .0, c (i .0) .timerM w b (i .1));
+      }
+
+  -- every run keeps an invariant beside what the last further event left, if such an event leaves it beside itself
+  module _
+      (Holds : Left H M → World H M → Type 0) (c : (b : Left H M) → Closed (Holds b))
+      (f : (b : Left H M) (w : World H M) (x : X) → Holds b w → Holds (left (ends .further w x)) (ends .further w x)) where
+    pub always-left : (b : Left H M) (w : World H M) (es : List (Event X)) → Holds b w → Holds (lastLeft (step ends) b w es) (run ends w es)
+    unfolding run lastLeft
+    always-left b w [] h = h
+    always-left b w (own e ∷ es) h = always-left b (ownStep ends w e) es (kept (Holds b) (c b) w e h)
+    always-left b w (further x ∷ es) h = always-left (left (ends .further w x)) (ends .further w x) es (f b w x h)

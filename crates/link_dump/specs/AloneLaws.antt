@@ -39,7 +39,7 @@ pub record Numbers (L R w f n k v t : ℕ) : Type 0 where
 
 -- what its counts say
 abbrev pub Counting : Host → Type 0
-Counting h = Counted (h .session .waiting) (h .session .replies) (h .session .verdict) (h .session .counts)
+Counting h = Counted (h .session .waiting) 0 (h .session .replies) (h .session .verdict) (h .session .counts)
 
 abbrev pub Good : Settings → Host → Type 0
 Good s h =
@@ -98,7 +98,7 @@ module _ (s : Settings) (some : 1 ≤ s .length) where
         blank =
             by-cases (λ (b : Bool). b ≡ true) (eqb (h .session .waiting) 1)
             (λ w. let z = g .waiting (eqb-true _ _ w) in
-            rw (eq-eqb _ _ (z .0), eq-eqb _ _ (z .1), eq-eqb _ _ (z .2), eq-eqb _ _ (z .3), eq-eqb _ _ (z .4), only-ignored k (eqb-true _ _ w) (z .1) (g .never))) (λ _. refl)
+            rw (eq-eqb _ _ (z .0), eq-eqb _ _ (z .1), eq-eqb _ _ (z .2), eq-eqb _ _ (z .3), eq-eqb _ _ (z .4), only-ignored k (eqb-true _ _ w) refl (z .1) (g .never))) (λ _. refl)
 
         full : pick (eqb (h .session .verdict) 1) (eqb (h .session .filled) (s .length)) (not (eqb (h .session .filled) (s .length))) ≡ true
         full =
@@ -109,7 +109,7 @@ module _ (s : Settings) (some : 1 ≤ s .length) where
   abbrev Raised : Host → ℕ → Turn Host → Type 0
   Raised = Raises Counting (λ h. sum (h .session .counts))
 
-  says : {w f n k v t : ℕ} {c : Counts} {buffer : List ℕ} (x : Host) → Now x w f n k v t c buffer → Counted w n v c → Counting x
+  says : {w f n k v t : ℕ} {c : Counts} {buffer : List ℕ} (x : Host) → Now x w f n k v t c buffer → Counted w 0 n v c → Counting x
   says x n k = rw (n .waiting, n .replies, n .verdict, n .counts) k
 
   module _ (h : Host) (k : Counting h) where
@@ -118,7 +118,7 @@ module _ (s : Settings) (some : 1 ≤ s .length) where
     raised f n t refused c = tt
     raised f n t (ignored x m) c = (says x m (passing k), ap sum (m .counts) ∙ passed-sum (h .session .verdict) (h .session .counts) ∙ (rw c))
     raised f n t (begins x w v m) c =
-        (says x m (starting k w (omega arith)), ap sum (m .counts) ∙ (omega (arith, one (h .session .verdict) n v c)))
+        (says x m (starting k w refl (omega arith)), ap sum (m .counts) ∙ (omega (arith, one (h .session .verdict) n v c)))
     raised f n t (asks x d w a l m) c =
         (says x m (rw (w .0) at (advancing k 0 (omega (arith, w .1)) (omega arith))), ap sum (m .counts) ∙ (omega (arith, one (h .session .verdict) n (w .1) c)))
     raised f n t (finishes x d w a l m) c =

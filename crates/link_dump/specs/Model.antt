@@ -61,7 +61,7 @@ pub record Dumped (s : DumpSettings) (memory buffer : List ℕ) (w : World Host 
   pub bounded : w .host .session .sent ≤ (w .host .session .replies + 1) * (s .repeats + 1) + 1
   -- the four counts together are the readable frames that the link handed over while the verdict was 0
   pub handed : sum (w .host .session .counts) ≡ w .heard
-  pub counts : Counted (w .host .session .waiting) (w .host .session .replies) (w .host .session .verdict) (w .host .session .counts)
+  pub counts : Counted (w .host .session .waiting) 0 (w .host .session .replies) (w .host .session .verdict) (w .host .session .counts)
   pub never-rejected : w .host .session .counts .rejections ≡ 0
   -- the record is none of those that are bad, as long as no count can be at its top
   pub sound : w .heard < top → dumpChecks.sound s (w .host .session) ≡ true

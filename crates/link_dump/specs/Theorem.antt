@@ -101,29 +101,29 @@ module _
 
   -- What each count of the record is: starts is 0 while the host waits and 1 from then on, advances is the number of replies taken, rejections is
   -- 0. All four together are the readable frames that the link handed to the host while its verdict was 0; so the rest of these were ignored.
-  pub handed-dump : Counted (session .waiting) (session .replies) (session .verdict) (session .counts) × (session .counts .rejections ≡ 0)
+  pub handed-dump : Counted (session .waiting) 0 (session .replies) (session .verdict) (session .counts) × (session .counts .rejections ≡ 0)
       × (sum (session .counts) ≡ after s ms memory buffer es .heard)
   handed-dump = (dumped .counts, dumped .never-rejected, dumped .handed)
 
   -- After fewer than 2^64 - 1 events the record is none of those that a call refuses as bad.
   pub never-bad : length es < top → dumpChecks.sound s session ≡ true
-  never-bad short = dumped .sound (omega (arith, few (dumpEnds s ms) (freshWorld ms memory buffer) es))
+  never-bad short = dumped .sound (omega (arith, few (dumpEnds s ms) (λ w x. absurd x) (freshWorld ms memory buffer) es))
 
   -- Nor is a call of either end with a reply buffer of at least 1,500 bytes refused, whatever the events before and their buffers: on a timer, or
   -- on the next frame of its queue.
   pub never-refused : length es < top → Unrefused (dumpEnds s ms) (after s ms memory buffer es)
   never-refused short =
       unrefused s ms memory buffer settled ready (after s ms memory buffer es) (kept s ms memory buffer settled ready es)
-      (omega (arith, few (dumpEnds s ms) (freshWorld ms memory buffer) es))
+      (omega (arith, few (dumpEnds s ms) (λ w x. absurd x) (freshWorld ms memory buffer) es))
 
   -- On a line whose queues hold at most n frames, where a frame that finds its queue full is lost, the same claim holds, and no such call is refused.
   pub bounded-dump : (n : ℕ) → Dumped s memory buffer (runWithin n (dumpEnds s ms) (freshWorld ms memory buffer) es)
   bounded-dump n =
-      let x = bounded (dumpEnds s ms) n (freshWorld ms memory buffer) es in
+      let x = bounded (dumpEnds s ms) (λ w v x. absurd x) n (freshWorld ms memory buffer) es in
       dumped-alike s memory buffer (after s ms memory buffer (x .0)) _ (x .1)
       (claimed s ms memory buffer settled ready (after s ms memory buffer (x .0)) (kept s ms memory buffer settled ready (x .0)))
 
   pub bounded-never-refused : (n : ℕ) → length es < top → Unrefused (dumpEnds s ms) (runWithin n (dumpEnds s ms) (freshWorld ms memory buffer) es)
   bounded-never-refused n short =
       unrefused s ms memory buffer settled ready _ (kept-within s ms memory buffer settled ready n es)
-      (omega (arith, few-within (dumpEnds s ms) n (freshWorld ms memory buffer) es))
+      (omega (arith, few-within (dumpEnds s ms) (λ w x. absurd x) n (freshWorld ms memory buffer) es))

@@ -6,6 +6,7 @@ pub mod FramesLaws
 pub mod SenderLaws
 pub mod ImageLaws
 pub mod MeaningLaws
+pub mod KeptLaws
 pub mod ReportLaws
 pub mod Theorem
 pub mod RegionsLaws

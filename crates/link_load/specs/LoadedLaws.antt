@@ -13,7 +13,7 @@ use lib.Dec.{leb}
 use borrow.Author.Tests.{eq-eqb, leb-true, leb-false}
 use Rattle.octets.specs.TestLaws.{both}
 use Rattle.version.specs.Version.{older}
-use Rattle.window.specs.Window.{Lies}
+use Rattle.window.specs.Window.{Lies, InWindow}
 use Rattle.parameters.specs.declared.Parameters.{Parameters}
 use Rattle.parameters.specs.Parameters.{kept}
 use Rattle.block.specs.declared.Change.{Change}
@@ -45,27 +45,39 @@ module _ (s : Settings) (ms : MachineSettings) (file string old : List ℕ) (ok 
   over-segments (suc k) = rw (over-segments k)
 
   -- n frames hold all segments
-  all-segments : segments s file (frames s file) ≡ many (s .«segment_size») (regions file)
+  pub all-segments : segments s file (frames s file) ≡ many (s .«segment_size») (regions file)
   all-segments = omega (arith, frames-few s (many (s .«segment_size») (regions file)) .0)
 
+  abbrev directory : ℕ
+  directory = trailer file .directory
+
+  size-some : 1 ≤ s .«segment_size»
+  size-some = ready file (s .«segment_size») ok .some
+
+  entries : entriesRefusal directory 0 (regions file) ≡ 0
+  entries = ready file (s .«segment_size») ok .fitting
+
+  before : directory ≤ length file
+  before = omega (arith, ready file (s .«segment_size») ok .whole)
+
+  -- where all segments fit, so do the regions, and none touches the window
+  module _ (segments-fit : SegmentsFit file (s .«segment_size») (ms .window) (regions file) (length old)) where
+    regions-fit : AllFit file (s .«segment_size») (ms .window) (regions file) (length old)
+    regions-fit = all-fit file (s .«segment_size») (ms .window) directory size-some before 0 (regions file) (length old) entries segments-fit
+
+    pub clear-of : (k : ℕ) (r : Region) → Entry file k r → (a : ℕ) → InWindow (ms .window) a → Lies (r .address) (r .length) a → ⊥
+    clear-of k r q a x y =
+        let z = there (regions file) k r q in
+        let e : Lies (getD (regions file) k nowhere .address) (getD (regions file) k nowhere .length) a = rw (z .1) (omega arith, omega arith) in
+        fits-clear (ms .window) (getD (regions file) k nowhere .address) (getD (regions file) k nowhere .length) (length old)
+        (fits-at file (s .«segment_size») (ms .window) (regions file) (length old) k regions-fit (z .0)) a x e
+
   module _ (e : End) (i : FirstIn s ms file string old (frames s file) e) where
-    abbrev directory : ℕ
-    directory = trailer file .directory
-
-    size-some : 1 ≤ s .«segment_size»
-    size-some = ready file (s .«segment_size») ok .some
-
-    entries : entriesRefusal directory 0 (regions file) ≡ 0
-    entries = ready file (s .«segment_size») ok .fitting
-
-    before : directory ≤ length file
-    before = omega (arith, ready file (s .«segment_size») ok .whole)
-
     segments-fit : SegmentsFit file (s .«segment_size») (ms .window) (regions file) (length old)
     segments-fit j l = i .fitting j (omega (arith, all-segments))
 
     all : AllFit file (s .«segment_size») (ms .window) (regions file) (length old)
-    all = all-fit file (s .«segment_size») (ms .window) directory size-some before 0 (regions file) (length old) entries segments-fit
+    all = regions-fit segments-fit
 
     -- memory with the regions laid over it
     abbrev image : List ℕ
@@ -196,10 +208,7 @@ module _ (s : Settings) (ms : MachineSettings) (file string old : List ℕ) (ok 
               let y : (r .place + r .length ≤ length file) × (r .address + r .length ≤ length (e .memory)) =
               subst (λ (x : Region). (x .place + x .length ≤ length file) × (x .address + x .length ≤ length (e .memory))) (z .1) (within k (z .0)) in
               (omega (arith, y .0), omega (arith, y .1));
-          clear = λ k r q a x y.
-              let z = there (regions file) k r q in
-              let e : Lies (getD (regions file) k nowhere .address) (getD (regions file) k nowhere .length) a = rw (z .1) (omega arith, omega arith) in
-              fits-clear (ms .window) (getD (regions file) k nowhere .address) (getD (regions file) k nowhere .length) (length old) (fit k (z .0)) a x e;
+          clear = λ k r q a x y. clear-of segments-fit k r q a x (omega (arith, y), omega (arith, y));
           block-within = λ q. omega (arith, fits-inside (ms .window) at 14 (length old) (block-fits q), size);
           block-clear = λ q a x y. fits-clear (ms .window) at 14 (length old) (block-fits q) a x y;
           block = λ a b q. is-there 0 (e .memory) a (written a b q) ∙ ap some (overlaid a ∙ (rw q));

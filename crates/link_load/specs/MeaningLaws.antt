@@ -12,6 +12,7 @@ use Rattle.parameters.specs.Parameters.{none}
 use Rattle.machine_record.specs.declared.Settings.{Settings}
 use Rattle.machine_record.specs.Record as machine
 use Rattle.load_record.specs.declared.Session.{Session}
+use Rattle.link.specs.Link.{Left}
 use Rattle.link.specs.MachineEnd.{End}
 use Rattle.link_load.specs.FramesLaws.{Frames, laid, machineAt, At}
 use Rattle.link_load.specs.SenderLaws.{Stage}
@@ -103,7 +104,7 @@ module _ {ms : Settings} (fr : Frames ms) (old : List ℕ) where
 
   -- a host at stage p, and a machine after m answers
   module _
-      (R m p : ℕ) (h : Session) (g : Stage (fr .many) R (fr .fit) p h) (lower : m ≤ p) (upper : p ≤ m + 1) (few : m ≤ fr .many)
+      (R E m p : ℕ) (b : Left Session End) (h : Session) (g : Stage (fr .many) R E b (fr .fit) p h) (lower : m ≤ p) (upper : p ≤ m + 1) (few : m ≤ fr .many)
       (fitting : (i : ℕ) → i + 1 < p → fr .fit i ≡ true) where
     flag : (h .waiting ≡ 1 → ⊥) → h .waiting ≡ 0
     flag w = omega (arith, g .good .flag)

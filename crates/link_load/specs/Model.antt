@@ -1,10 +1,10 @@
 -- A load over the link: its ends, its fresh world, and what 'the first k are in' means (PROTOCOL 6, 'Link').
 use Prim.Native.Nat.{ℕ, zero, suc, _≤_, _<_, min}
 use mathlib.Core.Path.{_≡_}
-use mathlib.Core.Bool.{Bool, true, false, _&&_, cond as pick}
+use mathlib.Core.Bool.{Bool, true, false, _&&_, _||_, cond as pick}
 use mathlib.Core.List.{List}
 use lib.ListN.{length}
-use lib.Dec.{eqb}
+use lib.Dec.{eqb, ltb}
 use Rattle.memory.specs.Memory.{fits, laid}
 use Rattle.directory.specs.Directory.{trailer, regions}
 use Rattle.image.specs.Image.{many, segmentOf}
@@ -18,27 +18,51 @@ use Rattle.load_record.specs.declared.Settings.{Settings as LoadSettings}
 use Rattle.load_record.specs.Record.{fresh}
 use Rattle.load_checks.specs.Checks.{given, frames}
 use Rattle.load.specs.Load.{loadFrame, loadTimer}
-use Rattle.link.specs.Link.{turned, Ends, World, hearing, Event, run}
+use Rattle.link.specs.Link.{turned, Ends, World, hearing, Event, Left, left, lastLeft, step, run}
 use Rattle.link.specs.MachineEnd.{End, endsWith, freshWith}
+use Rattle.link.specs.Reset.{resets}
 
 -- the host's end is its record alone
 abbrev pub hostEnd : Session → Unit {0} → Session
 hostEnd h none = h
 
--- the calls of both ends, as the code promises them; there are no further events
-abbrev pub loadEnds : LoadSettings → MachineSettings → List ℕ → List ℕ → Ends Session End ⊥
+-- A reset is a further event of a load with the restart setting, and of no other: the event has that as a fact. It carries the bytes that
+-- memory has afterwards outside the ROM window.
+pub data Reset (s : LoadSettings) : Type 0 where
+  reset : s .restart ≡ 1 → List ℕ → Reset s
+
+abbrev pub onReset : {s : LoadSettings} → MachineSettings → World Session End → Reset s → World Session End
+onReset ms w (reset setting bytes) = resets ms w bytes
+
+-- the calls of both ends, as the code promises them, and the reset
+abbrev pub loadEnds : (s : LoadSettings) → MachineSettings → List ℕ → List ℕ → Ends Session End (Reset s)
 loadEnds s ms file string =
     endsWith ms (λ h f. hearing (s .version) (h .verdict) f) (λ h f b. turned hostEnd (loadFrame s h file string f b))
-    (λ h b. turned hostEnd (loadTimer s h file string b)) (λ w x. absurd x)
+    (λ h b. turned hostEnd (loadTimer s h file string b)) (onReset ms)
 
 -- fresh ends: a waiting host, and a Requesting machine whose first frame, the one that a timer gives, is the only one queued
 abbrev pub freshWorld : MachineSettings → List ℕ → World Session End
 freshWorld ms memory = freshWith ms fresh machine.requesting memory
 
--- the world after a list of events, from fresh ends with this image, this parameter string and this memory; `Event ⊥`: the link's own
--- events and no others
-abbrev pub after : LoadSettings → MachineSettings → List ℕ → List ℕ → List ℕ → List (Event ⊥) → World Session End
-after s ms file string memory es = run (loadEnds s ms file string) (freshWorld ms memory) es
+-- from fresh ends with this image, this parameter string and this memory: the world after a list of events; and the ends as its last reset
+-- left them, the fresh ones if it has none
+module _ (s : LoadSettings) (ms : MachineSettings) (file string memory : List ℕ) (es : List (Event (Reset s))) where
+  abbrev pub after : World Session End
+  after = run (loadEnds s ms file string) (freshWorld ms memory) es
+
+  abbrev pub lastReset : Left Session End
+  lastReset = lastLeft (step (loadEnds s ms file string)) (left (freshWorld ms memory)) (freshWorld ms memory) es
+
+-- A host has heard of the reset that left these ends: it was waiting when the reset came, or stood at c = 0 with verdict 0; or its record says
+-- that it has begun again since. Fresh ends are as if it had: their host waits.
+abbrev pub heardAtOnce : Left Session End → Bool
+heardAtOnce b = eqb (b .host .waiting) 1 || (eqb (b .host .position) 0 && eqb (b .host .verdict) 0)
+
+abbrev pub restartedSince : Left Session End → Session → Bool
+restartedSince b h = ltb (b .host .restarts) (h .restarts)
+
+abbrev pub hasHeard : Left Session End → Session → Bool
+hasHeard b h = heardAtOnce b || restartedSince b h
 
 -- what a load leaves in a fresh machine's record: what the parameter string says, and nothing if none is given
 abbrev pub leaves : LoadSettings → List ℕ → Parameters

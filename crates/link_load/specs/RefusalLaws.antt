@@ -1,6 +1,6 @@
 -- Where what every run keeps holds and fewer than 2^64 - 1 frames were handed over, the record is not bad and every frame on its way is read:
 -- with a reply buffer of 1,500 bytes no call is refused.
-use Prim.Native.Nat.{ℕ, zero, suc, _+_, _*_, _%_, _≤_, _<_}
+use Prim.Native.Nat.{ℕ, zero, suc, _+_, _%_, _≤_, _<_}
 use mathlib.Core.Path.{_≡_, refl}
 use mathlib.Core.Bool.{Bool, true, false, not, cond as pick}
 use mathlib.Core.List.{List, _∷_}
@@ -38,32 +38,33 @@ use Rattle.load_timer.specs.Timer as load-timer
 use Rattle.load_checks.specs.Checks as load-checks
 use Rattle.load_checks.specs.Laws.{string-whole}
 use Rattle.load.specs.Load as load
-use Rattle.link.specs.Link.{Frame, World}
+use Rattle.link.specs.Link.{Frame, World, Left}
 use Rattle.link.specs.CallLaws as call
 use Rattle.link.specs.CountedLaws.{only-ignored}
-use Rattle.link.specs.NumberedLaws.{first-down, first-up}
+use Rattle.link.specs.RestartLaws.{first-down, first-up}
 use Rattle.link.specs.Unrefused.{Unrefused}
 use Rattle.link.specs.MachineEnd.{End}
 use Rattle.link.specs.MachineEndLaws.{frame-unrefused, timer-unrefused, as-accepted}
 use Rattle.link_load.specs.Model.{hostEnd, loadEnds}
 use Rattle.link_load.specs.AloneLaws.{Good, Counting, bound}
-use Rattle.link_load.specs.FramesLaws.{Frames, machineAt, length-laid, said}
+use Rattle.link_load.specs.FramesLaws.{Frames, machineAt, At, length-laid, said}
 use Rattle.link_load.specs.ImageLaws.{frame-read}
-use Rattle.link_load.specs.ReportLaws.{fr, load-transfer, Kept}
+use Rattle.link_load.specs.SenderLaws.{sending, Misses}
+use Rattle.link_load.specs.KeptLaws.{fr, Kept}
 
 -- ---- the host's record alone: one with good numbers, and counts below their top that say what they should, is none of those that are bad
-module _ (s : LoadSettings) (N : ℕ) (h : Session) (g : Good N (s .repeats) h) (k : Counting h) (t : sum (h .counts) < top) where
+module _ (s : LoadSettings) (N : ℕ) (h : Session) (g : Good N (s .repeats) (load-checks.restartsAllowed s) h) (k : Counting h) (t : sum (h .counts) < top) where
   sound : load-checks.sound s h ≡ true
-  sound = rw (le-leb (h .verdict) 4 (g .verdict), le-leb (h .repeats) (s .repeats) (g .repeats), le-leb (h .waiting) 1 (g .flag), sum-below (h .counts) t, blank)
+  sound = rw (le-leb (h .verdict) 4 (g .verdict), le-leb (h .repeats) (s .repeats) (g .repeats), le-leb (h .restarts) (load-checks.restartsAllowed s) (g .restarts), le-leb (h .waiting) 1 (g .flag), sum-below (h .counts) t, blank)
     where
       blank : pick (eqb (h .waiting) 1) (load-checks.blank h) true ≡ true
       blank =
           by-cases (λ (b : Bool). b ≡ true) (eqb (h .waiting) 1)
           (λ w. let z = g .waiting (eqb-true _ _ w) in
-          rw (eq-eqb _ _ (z .0), eq-eqb _ _ (z .1), eq-eqb _ _ (z .2), eq-eqb _ _ (z .3), only-ignored k (eqb-true _ _ w) (z .0) (omega arith))) (λ _. refl)
+          rw (eq-eqb _ _ (z .0), eq-eqb _ _ (z .1), eq-eqb _ _ (z .2), eq-eqb _ _ (z .3), eq-eqb _ _ (z .4), only-ignored k (eqb-true _ _ w) (z .4) (z .0) (omega arith))) (λ _. refl)
 
   consistent : load-checks.consistent N s h ≡ true
-  consistent = rw (le-leb (h .position) N reaches, le-leb (h .sent) (N * (s .repeats + 1)) (bound N (s .repeats) h g), placed)
+  consistent = rw (le-leb (h .position) N reaches, le-leb (h .sent) (load-checks.mostSent (h .restarts) N (s .repeats)) (bound N (s .repeats) (load-checks.restartsAllowed s) h g), placed)
     where
       reaches : h .position ≤ N
       reaches = at (eqb (h .verdict) 1) refl
@@ -79,29 +80,34 @@ module _ (s : LoadSettings) (N : ℕ) (h : Session) (g : Good N (s .repeats) h) 
 
 -- so with a reply buffer of 1,500 bytes no call is refused but for its frame
 not-refused : (s : LoadSettings) (file string : List ℕ) (h : Session) (reply : List ℕ) → cutRefusal file (s .«segment_size») ≡ 0
-    → load-checks.stringRefusal s string ≡ 0 → s .repeats ≤ 255 → s .«with_parameters» ≤ 1 → known (s .version) ≡ true
-    → Good (load-checks.frames s file) (s .repeats) h → Counting h → sum (h .counts) < top → 1500 ≤ length reply → load-checks.refusal s h file string reply ≡ 0
+    → load-checks.stringRefusal s string ≡ 0 → load-checks.few s (load-checks.frames s file) ≡ true → s .repeats ≤ 255 → s .«with_parameters» ≤ 1 → s .restart ≤ 1
+    → known (s .version) ≡ true → Good (load-checks.frames s file) (s .repeats) (load-checks.restartsAllowed s) h → Counting h → sum (h .counts) < top → 1500 ≤ length reply → load-checks.refusal s h file string reply ≡ 0
 unfolding first demand
-not-refused s file string h reply ok good few mark version g k t l =
+not-refused s file string h reply ok good small few mark restart version g k t l =
     let r = ready file (s .«segment_size») ok in
     let low = le-leb 1 (s .«segment_size») (r .some) in
     let high = le-leb (s .«segment_size») widest (r .narrow) in
     let whole : imageRefusal file ≡ 0 = rw (low, high) at ok in
-    rw (low, high, le-leb (s .repeats) 255 few, le-leb (s .«with_parameters») 1 mark, version, sound s (load-checks.frames s file) h g k t, le-leb 1500 (length reply) l, whole, consistent s (load-checks.frames s file) h g k t, good)
+    rw (low, high, le-leb (s .repeats) 255 few, le-leb (s .«with_parameters») 1 mark, le-leb (s .restart) 1 restart, version, sound s (load-checks.frames s file) h g k t, le-leb 1500 (length reply) l, whole, small, consistent s (load-checks.frames s file) h g k t, good)
 
 module _
     (s : LoadSettings) (ms : MachineSettings) (file string old : List ℕ) (ok : cutRefusal file (s .«segment_size») ≡ 0) (o : Octets file)
-    (good : load-checks.stringRefusal s string ≡ 0) (same : ms .version ≡ s .version) (few : s .repeats ≤ 255) (mark : s .«with_parameters» ≤ 1)
-    (fresh : machineRefusal ms requesting (length old) 1500 ≡ 0) (w : World Session End) (k : Kept s ms file string old ok o good w) (short : w .heard < top) where
+    (good : load-checks.stringRefusal s string ≡ 0) (small : load-checks.few s (load-checks.frames s file) ≡ true) (same : ms .version ≡ s .version)
+    (few : s .repeats ≤ 255) (mark : s .«with_parameters» ≤ 1) (restart : s .restart ≤ 1) (fresh : machineRefusal ms requesting (length old) 1500 ≡ 0)
+    (b : Left Session End) (w : World Session End) (k : Kept s ms file string old ok o good small b w) (short : w .heard < top) where
   abbrev t : Frames ms
-  t = fr s ms file string old ok o good
+  t = fr s ms file string old ok o good small
+
+  -- memory when the load began, or began again
+  abbrev then : List ℕ
+  then = b .machine .memory
 
   -- the machine's version is known, and it is the host's
   version : known (s .version) ≡ true
   version = rw (← same) (in-range ms requesting (length old) 1500 fresh .3)
 
   host-accepted : (reply : List ℕ) → 1500 ≤ length reply → load-checks.refusal s (w .host) file string reply ≡ 0
-  host-accepted reply l = not-refused s file string (w .host) reply ok good few mark version (k .1 .good) (k .1 .says) (omega (arith, k .1 .hears)) l
+  host-accepted reply l = not-refused s file string (w .host) reply ok good small few mark restart version (k .1 .good) (k .1 .says) (omega (arith, k .1 .hears)) l
 
   -- the machine's state and memory length stay within their ranges
   any : (a b : Bool) (x y z : Machine) → x .state ≤ 4 → y .state ≤ 4 → z .state ≤ 4 → pick a (pick b x y) z .state ≤ 4
@@ -109,30 +115,38 @@ module _
   any true false x y z p q r = q
   any false b x y z p q r = r
 
-  state : (m : ℕ) → machineAt t old m .state ≤ 4
+  state : (m : ℕ) → machineAt t then m .state ≤ 4
   unfolding machineAt
   state zero = omega arith
   state (suc m) = any (t .fit m) (eqb (m + 1) (t .many)) (t .done none) _ _ (omega arith) (omega arith) (omega arith)
 
+  -- after m answers, as many as there are frames at most
+  at-accepted : (reply : List ℕ) (m : ℕ) → 1500 ≤ length reply → m ≤ t .many → w .machine ≡ At t then m
+      → machineRefusal ms (w .machine .machine) (length (w .machine .memory)) (length reply) ≡ 0
+  at-accepted reply m l few e =
+      rw (e, length-laid t then (k .0 .0 .1) m few)
+      (as-accepted ms requesting (machineAt t then m) (length old) (length reply) (omega arith) (state m) l fresh)
+
   machine-accepted : (reply : List ℕ) → 1500 ≤ length reply → machineRefusal ms (w .machine .machine) (length (w .machine .memory)) (length reply) ≡ 0
   machine-accepted reply l =
-      let i = k .0 in
-      rw (i .2 .end-is, length-laid t old refl (i .0) (i .2 .few))
-      (as-accepted ms requesting (machineAt t old (i .0)) (length old) (length reply) (omega arith) (state (i .0)) l fresh)
+      ⊎-elim (λ i. at-accepted reply (i .0) l (i .2 .few) (i .2 .end-is)) (λ u. at-accepted reply 0 l (omega arith) (u .end-is)) (k .0 .1)
 
   -- every frame that the machine sends is read, and every frame of the load
-  said-read : (k : ℕ) → fields (s .version) (layout (said t old k)) .refusal ≡ 0
+  said-read : (k : ℕ) → fields (s .version) (layout (said t then k)) .refusal ≡ 0
   said-read zero = rw (request-program-fields (s .version) (ms .device) (ms .processor))
   said-read (suc k) = rw (request-load-fields (s .version) (after-number (k % 256)) (pick (t .fit k) 0 1))
 
+  abbrev E : ℕ
+  E = load-checks.restartsAllowed s
+
   host-read : (f : Frame) (q : List Frame) → w .toHost ≡ f ∷ q → fields (s .version) f .refusal ≡ 0
   host-read f q e =
-      let x = first-up (load-transfer s ms file string old ok o good) (loadEnds s ms file string) w f q (k .0) e in
+      let x = first-up (sending t (s .repeats) E b) (Misses t (s .repeats) E b) (loadEnds s ms file string) w f q (k .0 .1) e in
       rw (x .1) (said-read (x .0))
 
   machine-read : (f : Frame) (q : List Frame) → w .toMachine ≡ f ∷ q → fields (ms .version) f .refusal ≡ 0
   machine-read f q e =
-      let x = first-down (load-transfer s ms file string old ok o good) (loadEnds s ms file string) w f q (k .0) e in
+      let x = first-down (sending t (s .repeats) E b) (Misses t (s .repeats) E b) (loadEnds s ms file string) w f q (k .0 .1) e in
       let less : x .0 < t .many = ⊎-elim (λ l. l) (λ p. p .0) (x .2) in
       rw (x .1) (frame-read s ms file string (length old) ok o (string-whole s string good) (x .0) less same)
 
@@ -141,7 +155,7 @@ module _
       record {
         hostFrame = λ f q b e l.
             call.frame-unrefused hostEnd (s .version) (load-checks.refusal s (w .host) file string b) f (w .host) tt b
-            (λ (x : Fields). load.does s file string (tallied (w .host) (next.react (load-checks.frames s file) (w .host) x))) (host-accepted b l) (host-read f q e);
+            (λ (x : Fields). load.does s file string (tallied (w .host) (next.react (load-checks.frames s file) (s .restart) (w .host) x))) (host-accepted b l) (host-read f q e);
         hostTimer = λ b l.
             call.unrefused hostEnd (load-checks.refusal s (w .host) file string b) (w .host) tt b
             (load.does s file string (load-timer.onTimer (load-checks.frames s file) (s .repeats) (w .host))) (host-accepted b l);

@@ -1,7 +1,7 @@
 -- What is claimed of a reached world of a load: the host's report, and 'loaded' in the auditor's words (PROTOCOL 6, 'Link').
-use Prim.Native.Nat.{ℕ, _+_, _-_, _*_, _≤_, _<_}
+use Prim.Native.Nat.{ℕ, _+_, _-_, _≤_, _<_}
 use mathlib.Core.Path.{_≡_}
-use mathlib.Core.Bool.{Bool, true, _&&_, cond as pick}
+use mathlib.Core.Bool.{Bool, true, false, _&&_, cond as pick}
 use mathlib.Core.List.{List, []}
 use mathlib.Core.Logic.{_⊎_}
 use mathlib.Core.Option.{some}
@@ -13,39 +13,59 @@ use Rattle.parameters.specs.Parameters.{kept}
 use Rattle.block.specs.declared.Change.{Change}
 use Rattle.block.specs.declared.Change.the-variants.{Stays, Becomes}
 use Rattle.block.specs.Block.{place, cell}
-use Rattle.memory.specs.Memory.{WindowKept}
+use Rattle.memory.specs.Memory.{fits, WindowKept}
 use Rattle.directory.specs.declared.Region.{Region}
 use Rattle.directory.specs.Directory.{trailer, regions}
+use Rattle.image.specs.Image.{segmentOf}
 use Rattle.holds.specs.Holds.{Absent, Last}
 use Rattle.machine_record.specs.declared.Settings.{Settings as MachineSettings}
 use Rattle.machine_record.specs.Record as machine
 use Rattle.counts.specs.Counts.{sum}
 use Rattle.load_record.specs.declared.Session.{Session}
 use Rattle.load_record.specs.declared.Settings.{Settings as LoadSettings}
-use Rattle.load_checks.specs.Checks.{given, frames}
-use Rattle.link.specs.Link.{World}
+use Rattle.load_checks.specs.Checks.{given, frames, restartsAllowed, mostSent}
+use Rattle.link.specs.Link.{World, Left}
 use Rattle.link.specs.Counted.{Counted}
 use Rattle.link.specs.MachineEnd.{End}
-use Rattle.link_load.specs.Model.{leaves, FirstIn}
+use Rattle.link_load.specs.Model.{heardAtOnce, hasHeard, leaves, segments, FirstIn}
 
 -- What the host's record says of the machine end, n being the number of the load's frames: waiting, the first 0 are in; rejected, the first
--- c; finished, the first n; otherwise the first c, or the first c + 1. The bytes of the ROM window are the old ones. Frames sent is the
--- number of host frames that the link took, and the four counts together are the readable frames that it handed over while the verdict was 0.
-pub record Report (s : LoadSettings) (ms : MachineSettings) (file string old : List ℕ) (w : World Session End) : Type 0 where
+-- c; finished, the first n; otherwise the first c, or the first c + 1.
+pub record Means (s : LoadSettings) (ms : MachineSettings) (file string old : List ℕ) (w : World Session End) : Type 0 where
   pub waiting : w .host .waiting ≡ 1 → FirstIn s ms file string old 0 (w .machine) × (w .host .verdict ≡ 0)
   pub rejected : w .host .verdict ≡ 2 → FirstIn s ms file string old (w .host .position) (w .machine)
   pub finished : w .host .verdict ≡ 1 → FirstIn s ms file string old (frames s file) (w .machine)
   pub otherwise : (w .host .waiting ≡ 1 → ⊥) → (w .host .verdict ≡ 1 → ⊥) → (w .host .verdict ≡ 2 → ⊥)
       → FirstIn s ms file string old (w .host .position) (w .machine) ⊎ FirstIn s ms file string old (w .host .position + 1) (w .machine)
+
+-- The report, b being the ends as the last reset left them (the fresh ones if there was none) and old the fresh machine's memory. If the host has
+-- heard of that reset, its record means what it says, measured from the memory after it; if not, the machine is not started and stands as that
+-- reset left it. The bytes of the ROM window are the old ones. Frames sent is the number of host frames that the link took, and the four counts
+-- together are the readable frames that it handed over while the verdict was 0.
+pub record Report (s : LoadSettings) (ms : MachineSettings) (file string old : List ℕ) (b : Left Session End) (w : World Session End) : Type 0 where
+  pub heard-of : hasHeard b (w .host) ≡ true → Means s ms file string (b .machine .memory) w
+  pub not-heard-of : hasHeard b (w .host) ≡ false → (machine.is 4 (w .machine .machine) ≡ false) × (w .machine ≡ b .machine)
   pub window-kept : WindowKept (ms .window) old (w .machine .memory)
+  pub same-length : length (b .machine .memory) ≡ length old
   pub counted : w .host .sent ≡ w .taken
-  pub bounded : w .host .sent ≤ frames s file * (s .repeats + 1)
+  pub bounded : w .host .sent ≤ mostSent (w .host .restarts) (frames s file) (s .repeats)
+  pub restarts-allowed : w .host .restarts ≤ restartsAllowed s
+  -- a restart answers a reset: there is one at most since the last, and none if that was heard of at once
+  pub at-most-one : w .host .restarts ≤ b .host .restarts + 1
+  pub none-at-once : heardAtOnce b ≡ true → w .host .restarts ≡ b .host .restarts
   pub handed : sum (w .host .counts) ≡ w .heard
-  pub counts : Counted (w .host .waiting) (w .host .position) (w .host .verdict) (w .host .counts)
+  pub counts : Counted (w .host .waiting) (w .host .restarts) (w .host .position) (w .host .verdict) (w .host .counts)
+  -- every segment that was confirmed fits, whatever was reset since
+  pub confirmed : (i : ℕ) → i < segments s file (w .host .position)
+      → fits (ms .window) (segmentOf file (s .«segment_size») i .address) (length (segmentOf file (s .«segment_size») i .bytes)) (length old) ≡ true
   -- where each verdict stands
+  pub finished-at : w .host .verdict ≡ 1 → w .host .position ≡ frames s file
   pub rejected-at : w .host .verdict ≡ 2 → w .host .position < frames s file
   pub given-up-at : w .host .verdict ≡ 3 → w .host .position + 1 < frames s file
   pub unconfirmed-at : w .host .verdict ≡ 4 → w .host .position + 1 ≡ frames s file
+  -- finished or rejected, and not so when the reset came: it was heard of; a reset that comes after any verdict never is
+  pub in-time : (w .host .verdict ≡ 1) ⊎ (w .host .verdict ≡ 2) → b .host .verdict ≡ 0 → hasHeard b (w .host) ≡ true
+  pub too-late : (b .host .verdict ≡ 0 → ⊥) → hasHeard b (w .host) ≡ false
 
 -- entry k of the image's directory is region r
 abbrev pub Entry : List ℕ → ℕ → Region → Type 0

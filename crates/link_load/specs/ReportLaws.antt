@@ -1,4 +1,4 @@
--- The report of a load: what every run from fresh ends keeps, and what it says of the machine.
+-- The report of a load: what that which every run keeps says of the machine.
 use Prim.Native.Nat.{ℕ, zero, suc, _+_, _≤_, _<_, min}
 use mathlib.Core.Path.{_≡_, refl, sym, subst, _∙_}
 use mathlib.Core.Bool.{Bool, true, false, false≢true, cond as pick}
@@ -11,116 +11,36 @@ use Rattle.octets.specs.Number.{Octets}
 use Rattle.directory.specs.Directory.{regions}
 use Rattle.image.specs.Image.{many, cutRefusal}
 use Rattle.machine_record.specs.declared.Settings.{Settings as MachineSettings}
-use Rattle.machine_record.specs.Record.{is}
+use Rattle.machine_record.specs.Record.{is, requesting}
 use Rattle.parameters.specs.Parameters.{kept as keptOf}
 use Rattle.machine_next.specs.Next.{parametersLaid}
-use Rattle.counts.specs.Counts.{sum}
 use Rattle.load_record.specs.declared.Session.{Session}
 use Rattle.load_record.specs.declared.Settings.{Settings as LoadSettings}
-use Rattle.load_checks.specs.Checks.{given, frames, stringRefusal}
+use Rattle.load_checks.specs.Checks as checks
+use Rattle.load_checks.specs.Checks.{given, frames, restartsAllowed, stringRefusal}
 use Rattle.load_checks.specs.Laws.{frames-few, string-whole}
-use Rattle.link.specs.Link.{World, Event}
-use Rattle.link.specs.LinkLaws.{Closed, always}
-use Rattle.link.specs.Bounded.{Alike, runWithin}
-use Rattle.link.specs.BoundedLaws.{always-within}
-use Rattle.link.specs.NumberedLaws as numbered
-use Rattle.link.specs.NumberedLaws.{Transfer}
-use Rattle.link.specs.AloneLaws.{Alone}
-use Rattle.link.specs.CountedLaws.{fresh as fresh-counts}
+use Rattle.link.specs.Link.{World, Left}
 use Rattle.link.specs.MachineEnd.{End}
-use Rattle.link.specs.WindowLaws as window
-use Rattle.link.specs.WindowLaws.{window-closed}
-use Rattle.link_load.specs.Model.{loadEnds, freshWorld, after, laidOver, parametersIn, laidFrames, FirstIn}
-use Rattle.link_load.specs.Report.{Report}
-use Rattle.link_load.specs.HostLaws.{F, heard, counted, timed}
-use Rattle.link_load.specs.AloneLaws.{Good, Counting, alone-load, bound}
-use Rattle.link_load.specs.FramesLaws.{Frames, receiver, laid, machineAt}
-use Rattle.link_load.specs.SenderLaws.{Stage, sending, sender, fresh}
+use Rattle.link_load.specs.Model.{heardAtOnce, hasHeard, laidOver, parametersIn, laidFrames, FirstIn}
+use Rattle.link_load.specs.Report.{Means, Report}
+use Rattle.link_load.specs.AloneLaws.{Good, bound}
+use Rattle.link_load.specs.FramesLaws.{Frames, machineAt, laid}
 use Rattle.link_load.specs.ImageLaws.{no-parameters, parameters-last, in-last, in-early, loadFrames}
 use Rattle.link_load.specs.MeaningLaws as meaning
 use Rattle.link_load.specs.MeaningLaws.{Meaning, means}
+use Rattle.link_load.specs.KeptLaws.{Kept, confirmed}
 
--- a report says nothing of the queues
-pub report-alike : (s : LoadSettings) (ms : MachineSettings) (file string old : List ℕ) (w v : World Session End) → Alike w v → Report s ms file string old w → Report s ms file string old v
-report-alike s ms file string old w v a r =
-    let x : World Session End = record { host = w .host; machine = w .machine; toMachine = v .toMachine; toHost = v .toHost; taken = w .taken; heard = w .heard } in
-    let same : x ≡ v = rw (a .0, a .1, a .2, a .3) in
-    subst (Report s ms file string old) same (record {
-      waiting = r .waiting;
-      rejected = r .rejected;
-      finished = r .finished;
-      otherwise = r .otherwise;
-      window-kept = r .window-kept;
-      counted = r .counted;
-      bounded = r .bounded;
-      handed = r .handed;
-      counts = r .counts;
-      rejected-at = r .rejected-at;
-      given-up-at = r .given-up-at;
-      unconfirmed-at = r .unconfirmed-at;
-    })
-
-module _ (s : LoadSettings) (ms : MachineSettings) (file string old : List ℕ) (ok : cutRefusal file (s .«segment_size») ≡ 0) (o : Octets file)
-    (good : stringRefusal s string ≡ 0) where
+-- ---- from a memory: what the frames lay is what is laid of the segments and the parameter frame
+module _ (s : LoadSettings) (ms : MachineSettings) (file string old : List ℕ) (size : ℕ) (ok : cutRefusal file (s .«segment_size») ≡ 0) (o : Octets file)
+    (good : stringRefusal s string ≡ 0) (same : length old ≡ size) where
   abbrev N : ℕ
   N = many (s .«segment_size») (regions file)
 
   abbrev n : ℕ
   n = frames s file
 
-  abbrev pub fr : Frames ms
-  fr = loadFrames s ms file string (length old) ok o (string-whole s string good)
-
-  abbrev pub load-transfer : Transfer Session End
-  load-transfer = sending fr (s .repeats) old
-
-  -- what every run keeps: the invariant of numbered frames, a record whose numbers and counts are good, and the bytes of the ROM window
-  abbrev pub Inv : World Session End → Type 0
-  Inv = numbered.Inv load-transfer (loadEnds s ms file string)
-
-  abbrev pub Counts : World Session End → Type 0
-  Counts = Alone (Good n (s .repeats)) Counting (λ h. h .sent) (λ h. sum (h .counts)) (loadEnds s ms file string)
-
-  abbrev pub Windowed : World Session End → Type 0
-  Windowed = window.Kept ms old
-
-  abbrev pub Kept : World Session End → Type 0
-  Kept w = Inv w × Counts w × Windowed w
-
-  inv : Closed (loadEnds s ms file string) Inv
-  inv =
-      let ends = loadEnds s ms file string in
-      numbered.closed load-transfer ends (sender fr (s .repeats) old ends (heard s file string) (timed s file string))
-      (receiver fr old refl (ends .hears) (ends .hostFrame) (ends .hostTimer) (ends .further) (Stage (fr .many) (s .repeats) (fr .fit)))
-
-  counting : Closed (loadEnds s ms file string) Counts
-  counting = alone-load n (s .repeats) (fr .some) (F s file string) (loadEnds s ms file string) (heard s file string) (timed s file string) (counted s file string)
-
-  windowed : Closed (loadEnds s ms file string) Windowed
-  windowed =
-      let ends = loadEnds s ms file string in window-closed ms old (ends .hears) (ends .hostFrame) (ends .hostTimer) (ends .further)
-
-  at-first : Kept (freshWorld ms old)
-  unfolding machineAt laid
-  at-first = (
-    (0, 0, numbered.begins load-transfer (loadEnds s ms file string) _ _ (fresh fr (s .repeats) old) refl),
-    record { good = fresh fr (s .repeats) old .good; took = refl; says = fresh-counts; hears = refl },
-    λ a x. refl,
-  )
-
-  pub kept : (es : List (Event ⊥)) → Kept (after s ms file string old es)
-  kept es = (
-    always (loadEnds s ms file string) Inv inv (λ w x. absurd x) (freshWorld ms old) es (at-first .0),
-    always (loadEnds s ms file string) Counts counting (λ w x. absurd x) (freshWorld ms old) es (at-first .1),
-    always (loadEnds s ms file string) Windowed windowed (λ w x. absurd x) (freshWorld ms old) es (at-first .2),
-  )
-
-  pub kept-within : (n : ℕ) (es : List (Event ⊥)) → Kept (runWithin n (loadEnds s ms file string) (freshWorld ms old) es)
-  kept-within n es = (
-    always-within (loadEnds s ms file string) Inv inv (λ w x. absurd x) n (freshWorld ms old) es (at-first .0),
-    always-within (loadEnds s ms file string) Counts counting (λ w x. absurd x) n (freshWorld ms old) es (at-first .1),
-    always-within (loadEnds s ms file string) Windowed windowed (λ w x. absurd x) n (freshWorld ms old) es (at-first .2),
-  )
+  abbrev fr : Frames ms
+  fr = loadFrames s ms file string size ok o (string-whole s string good)
 
   -- what the frames lay: the segments among them, and the parameter frame behind all
   abbrev S : ℕ
@@ -152,62 +72,128 @@ module _ (s : LoadSettings) (ms : MachineSettings) (file string old : List ℕ) 
           let z : min k N ≡ k = omega arith in
           rw z (frames-segments k l less)
 
-  frames-in : (k : ℕ) (e : End) → meaning.FirstIn fr old k e → FirstIn s ms file string old k e
+  pub frames-in : (k : ℕ) (e : End) → meaning.FirstIn fr old k e → FirstIn s ms file string old k e
   frames-in k e i =
       record {
         most = i .most;
-        fitting = λ j l. rw (no-parameters s file j (omega arith)) at (i .fitting j (omega arith));
-        parameters-fit = λ q. let z = in-last s file k q in rw (parameters-last s file (z .0)) at (i .fitting N (omega (arith, z .1)));
+        fitting = λ j l. rw same (rw (no-parameters s file j (omega arith)) at (i .fitting j (omega arith)));
+        parameters-fit = λ q. let z = in-last s file k q in rw same (rw (parameters-last s file (z .0)) at (i .fitting N (omega (arith, z .1))));
         memory-is = i .memory-is ∙ frames-laid k (i .most);
         started = i .started;
         not-started = i .not-started;
         keeps-nothing = i .keeps-nothing;
       }
 
-  pub report : (w : World Session End) → Kept w → Report s ms file string old w
-  report w k =
-      let i = k .0 in
-      let g : Good n (s .repeats) (w .host) = k .1 .good in
-      let m : Meaning fr old (w .host) (w .machine) =
-      subst (Meaning fr old (w .host)) (sym (i .2 .end-is)) (means fr old (s .repeats) (i .0) (i .1) (w .host) (i .2 .stage) (i .2 .lower) (i .2 .upper) (i .2 .few) (i .2 .fitting)) in
+-- ---- the report
+module _ (s : LoadSettings) (ms : MachineSettings) (file string first : List ℕ) (ok : cutRefusal file (s .«segment_size») ≡ 0) (o : Octets file)
+    (good : stringRefusal s string ≡ 0) (few : checks.few s (frames s file) ≡ true) (b : Left Session End) (w : World Session End)
+    (k : Kept s ms file string first ok o good few b w) where
+  abbrev old : List ℕ
+  old = b .machine .memory
+
+  abbrev t : Frames ms
+  t = loadFrames s ms file string (length first) ok o (string-whole s string good)
+
+  g : Good (frames s file) (s .repeats) (restartsAllowed s) (w .host)
+  g = k .1 .good
+
+  clash : (a : Bool) {A : Type 0} → a ≡ true → a ≡ false → A
+  clash a e f = absurd (false≢true (sym f ∙ e))
+
+  says : Meaning t old (w .host) (w .machine) → Means s ms file string old w
+  says m =
+      let in-as = frames-in s ms file string old (length first) ok o good (k .0 .0 .1) in
       record {
-        waiting = λ e. (frames-in 0 (w .machine) (m .waiting e), g .waiting e .2);
-        rejected = λ e. frames-in (w .host .position) (w .machine) (m .rejected e);
-        finished = λ e. frames-in n (w .machine) (m .finished e);
-        otherwise = λ a b c. ⊎-map (frames-in (w .host .position) (w .machine)) (frames-in (w .host .position + 1) (w .machine)) (m .otherwise a b);
+        waiting = λ e. (in-as 0 (w .machine) (m .waiting e), g .waiting e .2);
+        rejected = λ e. in-as (w .host .position) (w .machine) (m .rejected e);
+        finished = λ e. in-as (frames s file) (w .machine) (m .finished e);
+        otherwise = λ x y z. ⊎-map (in-as (w .host .position) (w .machine)) (in-as (w .host .position + 1) (w .machine)) (m .otherwise x y);
+      }
+
+  meant : hasHeard b (w .host) ≡ true → Means s ms file string old w
+  meant e =
+      ⊎-elim (λ i.
+      says (subst (Meaning t old (w .host)) (sym (i .2 .end-is)) (means t old (s .repeats) (restartsAllowed s) (i .0) (i .1) b (w .host) (i .2 .stage) (i .2 .lower) (i .2 .upper) (i .2 .few) (i .2 .fitting))))
+      (λ u. clash (hasHeard b (w .host)) e (u .sender .misses)) (k .0 .1)
+
+  -- the machine stands as the reset left it
+  unmoved : hasHeard b (w .host) ≡ false → (is 4 (w .machine .machine) ≡ false) × (w .machine ≡ b .machine)
+  unfolding machineAt laid
+  unmoved e =
+      let anew : b .machine .machine ≡ requesting = k .0 .0 .0 in
+      ⊎-elim (λ i. clash (hasHeard b (w .host)) (i .2 .stage .heard-of .hears) e)
+      (λ u. (rw (u .end-is), u .end-is ∙ (rw anew))) (k .0 .1)
+
+  -- a new verdict that is not given up or unconfirmed is of a host that has heard; no host hears of a reset after its verdict
+  in-time : (w .host .verdict ≡ 1) ⊎ (w .host .verdict ≡ 2) → b .host .verdict ≡ 0 → hasHeard b (w .host) ≡ true
+  in-time v e = ⊎-elim (λ i. i .2 .stage .heard-of .hears) (λ u. absurd (⊎-elim (u .sender .new e .0) (u .sender .new e .1) v)) (k .0 .1)
+
+  too-late : (b .host .verdict ≡ 0 → ⊥) → hasHeard b (w .host) ≡ false
+  too-late e = ⊎-elim (λ i. absurd (e (i .2 .stage .heard-of .unended))) (λ u. u .sender .misses) (k .0 .1)
+
+  -- every restart answers a reset
+  once : w .host .restarts ≤ b .host .restarts + 1
+  once = ⊎-elim (λ i. i .2 .stage .heard-of .at-most) (λ u. omega (arith, u .sender .as-many)) (k .0 .1)
+
+  none-at-once : heardAtOnce b ≡ true → w .host .restarts ≡ b .host .restarts
+  none-at-once e = ⊎-elim (λ i. i .2 .stage .heard-of .at-once e) (λ u. u .sender .as-many) (k .0 .1)
+
+  pub report : Report s ms file string first b w
+  report =
+      record {
+        heard-of = meant;
+        not-heard-of = unmoved;
         window-kept = k .2;
+        same-length = k .0 .0 .1;
         counted = k .1 .took;
-        bounded = omega (arith, bound n (s .repeats) (w .host) g);
+        bounded = bound (frames s file) (s .repeats) (restartsAllowed s) (w .host) g;
+        restarts-allowed = g .restarts;
+        at-most-one = once;
+        none-at-once = none-at-once;
         handed = k .1 .hears;
         counts = k .1 .says;
+        confirmed = λ i l.
+            rw (no-parameters s file i (omega (arith, l))) at (confirmed s ms file string first ok o good few b w (k .0 .1) i (omega (arith, l)));
+        finished-at = λ e. g .finished e .0;
         rejected-at = λ e. g .otherwise (λ q. omega arith) .0;
         given-up-at = λ e. g .given-up e .0;
         unconfirmed-at = λ e. g .unconfirmed e .0;
+        in-time = in-time;
+        too-late = too-late;
       }
 
 -- given up or unconfirmed: the frame on its way may be in
-pub on-way : (s : LoadSettings) (ms : MachineSettings) (file string old : List ℕ) (w : World Session End) (v : ℕ) → 2 < v → w .host .verdict ≡ v → Report s ms file string old w
+pub on-way : (s : LoadSettings) (ms : MachineSettings) (file string old : List ℕ) (w : World Session End) (v : ℕ) → 2 < v → w .host .verdict ≡ v → Means s ms file string old w
     → FirstIn s ms file string old (w .host .position) (w .machine) ⊎ FirstIn s ms file string old (w .host .position + 1) (w .machine)
 on-way s ms file string old w v l e r = r .otherwise (λ q. omega (arith, r .waiting q .1)) (λ q. omega arith) (λ q. omega arith)
 
 -- a machine that is started has all frames in
-pub started-all-in : (s : LoadSettings) (ms : MachineSettings) (file string old : List ℕ) → cutRefusal file (s .«segment_size») ≡ 0 → (w : World Session End)
-    → Report s ms file string old w → is 4 (w .machine .machine) ≡ true → FirstIn s ms file string old (frames s file) (w .machine)
-started-all-in s ms file string old ok w r e =
-    elim (ℕ-discrete (w .host .waiting) 1) [
-      | yes a ↦ all 0 (r .waiting a .0)
-      | no a ↦ elim (ℕ-discrete (w .host .verdict) 1) [
-        | yes b ↦ r .finished b
-        | no b ↦ elim (ℕ-discrete (w .host .verdict) 2) [
-          | yes c ↦ all (w .host .position) (r .rejected c)
-          | no c ↦ ⊎-elim (all (w .host .position)) (all (w .host .position + 1)) (r .otherwise a b c)
+module _ (s : LoadSettings) (ms : MachineSettings) (file string old : List ℕ) (w : World Session End) (e : is 4 (w .machine .machine) ≡ true) where
+  all : (k : ℕ) → FirstIn s ms file string old k (w .machine) → FirstIn s ms file string old (frames s file) (w .machine)
+  all k i =
+      elim (ℕ-discrete k (frames s file)) [
+        | yes q ↦ subst (λ (n : ℕ). FirstIn s ms file string old n (w .machine)) q i
+        | no q ↦ absurd (false≢true (sym (i .not-started q) ∙ e))
+      ]
+
+  pub started-all-in : Means s ms file string old w → FirstIn s ms file string old (frames s file) (w .machine)
+  started-all-in r =
+      elim (ℕ-discrete (w .host .waiting) 1) [
+        | yes a ↦ all 0 (r .waiting a .0)
+        | no a ↦ elim (ℕ-discrete (w .host .verdict) 1) [
+          | yes b ↦ r .finished b
+          | no b ↦ elim (ℕ-discrete (w .host .verdict) 2) [
+            | yes c ↦ all (w .host .position) (r .rejected c)
+            | no c ↦ ⊎-elim (all (w .host .position)) (all (w .host .position + 1)) (r .otherwise a b c)
+          ]
         ]
       ]
-    ]
+
+-- a host of a machine that is started has heard of the last reset
+pub started-heard : (s : LoadSettings) (ms : MachineSettings) (file string old : List ℕ) (b : Left Session End) (w : World Session End) → Report s ms file string old b w
+    → is 4 (w .machine .machine) ≡ true → hasHeard b (w .host) ≡ true
+started-heard s ms file string old b w r e = go (hasHeard b (w .host)) refl
   where
-    all : (k : ℕ) → FirstIn s ms file string old k (w .machine) → FirstIn s ms file string old (frames s file) (w .machine)
-    all k i =
-        elim (ℕ-discrete k (frames s file)) [
-          | yes q ↦ subst (λ (n : ℕ). FirstIn s ms file string old n (w .machine)) q i
-          | no q ↦ absurd (false≢true (sym (i .not-started q) ∙ e))
-        ]
+    go : (d : Bool) → hasHeard b (w .host) ≡ d → hasHeard b (w .host) ≡ true
+    go true q = q
+    go false q = absurd (false≢true (sym (r .not-heard-of q .0) ∙ e))

@@ -17,11 +17,12 @@ use Rattle.step.specs.Step.{Sending, nothing, sends, Act, acts, gives, Leaves}
 use Rattle.load_record.specs.declared.Settings.{Settings}
 use Rattle.load_record.specs.declared.Session.{Session}
 use Rattle.load_record.specs.declared.Next.{Next}
+use Rattle.load_record.specs.Record.{mostRestarts}
 use Rattle.load_record.specs.Laws.{Bound}
 use Rattle.load_checks.specs.declared.Ruling.{Ruling}
 use Rattle.load_checks.specs.Checks.{frames, ruling}
 use Rattle.load.specs.Load.{numbered, frameMessage, counted, does}
-use Rattle.load_checks.specs.Laws.{Accepted, accepted, most-sent, Ruled, ruled}
+use Rattle.load_checks.specs.Laws.{Accepted, accepted, restarts-most, most-sent, Ruled, ruled}
 use Rattle.load.specs.Inner.{piece, acting, Sendable}
 
 same-sending : (b : Bool) (m n : Message) → (b ≡ true → m ≡ n) → _≡_ {A = Sending} (pick b (sends m) nothing) (pick b (sends n) nothing)
@@ -65,10 +66,12 @@ module _ (s : Settings) (h : Session) (file string reply : List ℕ) (i : ℕ) {
         }
 
     module _ (next : Next) (b : Bound (k .many) i h next) where
-      pub ready : (next .session .sent ≤ 256 * (addresses + 1)) × (next .sends ≡ true → Sendable s file string (next .session .position) k reply)
+      pub ready : (next .session .sent ≤ 65536 * (256 * (addresses + 1))) × (next .sends ≡ true → Sendable s file string (next .session .position) k reply)
       ready =
-          let a = facts in (
-            rw (b .counted) (omega (arith, a .fits .counted, most-sent (frames s file) (s .repeats) (a .few) (a .range .few))),
+          let a = facts in
+          let often : h .restarts ≤ mostRestarts = omega (arith, a .sound .restarts, restarts-most s) in
+          let most = most-sent (h .restarts) (frames s file) (s .repeats) often (a .few) (a .range .few) in (
+            rw (b .counted) (omega (arith, a .fits .counted, most)),
             λ e. rw (b .place e) (sendable (b .inside e)),
           )
 

@@ -32,7 +32,7 @@ frameMessage s file string i = numbered s string (frames s file) (trailer file .
 -- this record with one more frame sent
 abbrev pub raised : Session → Session
 raised h =
-    record { position = h .position; sent = h .sent + 1; counts = h .counts; repeats = h .repeats; waiting = h .waiting; verdict = h .verdict }
+    record { position = h .position; sent = h .sent + 1; counts = h .counts; repeats = h .repeats; restarts = h .restarts; waiting = h .waiting; verdict = h .verdict }
 
 abbrev pub counted : Next → Session
 counted next = pick (next .sends) (raised (next .session)) (next .session)
@@ -49,7 +49,7 @@ does s file string next = acts (counted next) tt (sending next (frameMessage s f
 -- a step on a frame, which is counted
 abbrev pub loadFrame : Settings → Session → List ℕ → List ℕ → List ℕ → List ℕ → Outcome Session Unit
 loadFrame s h file string frame reply =
-    frameCall (s .version) (refusal s h file string reply) frame h tt reply (λ f. does s file string (tallied h (react (frames s file) h f)))
+    frameCall (s .version) (refusal s h file string reply) frame h tt reply (λ f. does s file string (tallied h (react (frames s file) (s .restart) h f)))
 
 -- a step on a timer
 abbrev pub loadTimer : Settings → Session → List ℕ → List ℕ → List ℕ → Outcome Session Unit

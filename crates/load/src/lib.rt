@@ -16,6 +16,7 @@ use load_checks::rule;
 use load_record::Next;
 use load_record::Session;
 use load_record::Settings;
+use message::Fields;
 
 // What a step gives: the next record, and the length of the frame to send, 0 for none, or a refusal.
 #[repr(C)]
@@ -32,10 +33,10 @@ pub fn start() -> Session
 }
 
 // The frame that might go out on a frame; no load has more than one frame more than there are addresses.
-fn ahead(session: Session) -> u64
-    ensures { λ r. ⌜ (session .position ≤ addresses + 1 → r ≡ ahead session) ⌝ }
+fn ahead(session: Session, f: Fields) -> u64
+    ensures { λ r. ⌜ (session .position ≤ addresses + 1 → r ≡ ahead session f) ⌝ }
 {
-    if session.waiting == 1 {
+    if f.code == 8 {
         return 0;
     }
     octets::lesser(session.position, directory::ADDRESSES + 1) + 1
@@ -75,7 +76,7 @@ fn give(
     next: Next,
     reply: &mut [u8],
 ) -> Stepped
-    requires { ⌜ (next .session .sent ≤ 256 * (addresses + 1))
+    requires { ⌜ (next .session .sent ≤ 65536 * (256 * (addresses + 1)))
         × (next .sends ≡ true → Sendable settings (now file) (now parameters) (next .session .position) k (now reply)) ⌝ }
     ensures { λ r. ⌜ Leaves (gives (acting settings (now (file .entry)) (now (parameters .entry)) k next) (now (reply .entry))) (r .session) (r .answer) tt (now (reply .exit)) ⌝ }
 {
@@ -117,15 +118,22 @@ pub fn frame(
 ) -> Stepped
     ensures { λ r. ⌜ Leaves (loadFrame settings session (now (file .entry)) (now (parameters .entry)) (now (frame .entry)) (now (reply .entry))) (r .session) (r .answer) tt (now (reply .exit)) ⌝ }
 {
-    let k = rule(settings, session, file, parameters, reply, ahead(session));
+    let f = reader::read(settings.version, frame);
+    let k = rule(
+        settings,
+        session,
+        file,
+        parameters,
+        reply,
+        ahead(session, f),
+    );
     if k.refusal != 0 {
         return refused(k.refusal, session);
     }
-    let f = reader::read(settings.version, frame);
     if f.refusal != 0 {
         return refused(f.refusal, session);
     }
-    let next = load_next::react(k.many, session, f);
+    let next = load_next::react(k.many, settings.restart, session, f);
     give(
         settings,
         file,

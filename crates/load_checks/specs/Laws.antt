@@ -22,8 +22,9 @@ use Rattle.step.specs.Step.{unless, first}
 use Rattle.step.specs.Laws.{met, none}
 use Rattle.load_record.specs.declared.Settings.{Settings}
 use Rattle.load_record.specs.declared.Session.{Session}
+use Rattle.load_record.specs.Record.{mostRestarts}
 use Rattle.load_checks.specs.declared.Ruling.{Ruling}
-use Rattle.load_checks.specs.Checks.{given, framesOf, frames, settled, blank, sound, consistent, longest, stringRefusal, refusal, denied, accepts, ruling}
+use Rattle.load_checks.specs.Checks.{given, restarting, framesOf, frames, settled, blank, restartsAllowed, sound, few, mostSent, consistent, longest, stringRefusal, refusal, denied, accepts, ruling}
 
 -- the settings are in range
 pub record Set (s : Settings) : Type 0 where
@@ -31,12 +32,14 @@ pub record Set (s : Settings) : Type 0 where
   pub narrow : s .«segment_size» ≤ widest
   pub few : s .repeats ≤ 255
   pub mark : s .«with_parameters» ≤ 1
+  pub restart : s .restart ≤ 1
   pub version : known (s .version) ≡ true
 
 pub set : (s : Settings) → settled s ≡ true → Set s
 set s e =
     let all = both _ _ e in
-    let marks = both _ _ (all .0) in
+    let settings = both _ _ (all .0) in
+    let marks = both _ _ (settings .0) in
     let numbers = both _ _ (marks .0) in
     let size = both _ _ (numbers .0) in
     record {
@@ -44,6 +47,7 @@ set s e =
       narrow = leb-true _ _ (size .1);
       few = leb-true _ _ (numbers .1);
       mark = leb-true _ _ (marks .1);
+      restart = leb-true _ _ (settings .1);
       version = all .1;
     }
 
@@ -57,17 +61,27 @@ pub frames-few : (s : Settings) (N : ℕ) → (N ≤ framesOf s N) × (framesOf 
 frames-few s N =
     by-cases (λ (n : ℕ). (N ≤ n) × (n ≤ N + 1)) (given s) (λ _. (omega arith, omega arith)) (λ _. (omega arith, omega arith))
 
--- n × (R + 1), the most frames sent by a load
-pub most-sent : (n R : ℕ) → n ≤ addresses + 1 → R ≤ 255 → n * (R + 1) ≤ 256 * (addresses + 1)
-most-sent n R h r =
-    let few : R + 1 ≤ 256 = omega arith in
-    let most : n * (R + 1) ≤ (addresses + 1) * 256 = mul-le-mul h few in
+-- n × (R + 1), the most frames sent by a load that does not begin again
+pub most-sent-once : (n R : ℕ) → n ≤ addresses + 1 → R ≤ 255 → n * (R + 1) ≤ 256 * (addresses + 1)
+most-sent-once n R h r =
+    let repeats : R + 1 ≤ 256 = omega arith in
+    let most : n * (R + 1) ≤ (addresses + 1) * 256 = mul-le-mul h repeats in
     omega arith
+
+-- and by any load
+pub most-sent : (restarts n R : ℕ) → restarts ≤ mostRestarts → n ≤ addresses + 1 → R ≤ 255 → mostSent restarts n R ≤ 65536 * (256 * (addresses + 1))
+most-sent restarts n R e h r =
+    let times : restarts + 1 ≤ 65536 = omega arith in
+    mul-le-mul times (most-sent-once n R h r)
+
+-- no load may begin again more often
+pub restarts-most : (s : Settings) → restartsAllowed s ≤ mostRestarts
+restarts-most s = by-cases (λ (n : ℕ). n ≤ mostRestarts) (restarting s) (λ _. omega arith) (λ _. omega arith)
 
 -- the record agrees with n: while it runs a frame is on its way or yet to come
 pub record Fitting (n : ℕ) (s : Settings) (h : Session) : Type 0 where
   pub reached : h .position ≤ n
-  pub counted : h .sent ≤ n * (s .repeats + 1)
+  pub counted : h .sent ≤ mostSent (h .restarts) n (s .repeats)
   pub goes : h .verdict ≡ 0 → h .position < n
 
 pub fitting : (n : ℕ) (s : Settings) (h : Session) → consistent n s h ≡ true → Fitting n s h
@@ -115,20 +129,32 @@ string-as-written s string number transfer out g h = rw g (go (entryList string 
     go true = laid-as (leb (length string) longest) refl
     go false = refl
 
--- no count of a sound record is at its top
-sound-below : (s : Settings) (h : Session) → sound s h ≡ true → below (h .counts) ≡ true
-sound-below s h e =
-    let marks = leb (h .verdict) 4 && leb (h .repeats) (s .repeats) && leb (h .waiting) 1 in
-    both marks (below (h .counts)) (both (marks && below (h .counts)) (pick (eqb (h .waiting) 1) (blank h) true) e .0) .1
+-- a sound record has only restarts that the settings allow, and no count at its top
+pub record Sound (s : Settings) (h : Session) : Type 0 where
+  pub restarts : h .restarts ≤ restartsAllowed s
+  pub below-top : below (h .counts) ≡ true
 
--- What an accepted call says: the settings are in range, no count is at its top, the reply buffer has room for any frame, the image is whole, the record agrees with
--- n, which has 33 bits, and so is the parameter string.
+pub is-sound : (s : Settings) (h : Session) → sound s h ≡ true → Sound s h
+is-sound s h e =
+    let numbers = leb (h .verdict) 4 && leb (h .repeats) (s .repeats) in
+    let again = leb (h .restarts) (restartsAllowed s) in
+    let mark = leb (h .waiting) 1 in
+    let counts = both (numbers && again && mark) (below (h .counts)) (both (numbers && again && mark && below (h .counts)) (pick (eqb (h .waiting) 1) (blank h) true) e .0) in
+    record { restarts = leb-true _ _ (both numbers again (both (numbers && again) mark (counts .0) .0) .1); below-top = counts .1 }
+
+-- a load that may begin again has at most 256 frames
+pub few-frames : (s : Settings) (n : ℕ) → few s n ≡ true → restarting s ≡ true → n ≤ 256
+few-frames s n e r = leb-true n 256 (rw r at e)
+
+-- What an accepted call says: the settings are in range, the record is sound, the reply buffer has room for any frame, the image is whole and has few frames if the
+-- load may begin again, the record agrees with n, which has 33 bits, and so is the parameter string.
 pub record Accepted (s : Settings) (h : Session) (file string reply : List ℕ) : Type 0 where
   pub range : Set s
-  pub below-top : below (h .counts) ≡ true
+  pub sound : Sound s h
   pub room : 1500 ≤ length reply
   pub whole : cutRefusal file (s .«segment_size») ≡ 0
   pub few : frames s file ≤ addresses + 1
+  pub again : restarting s ≡ true → frames s file ≤ 256
   pub fits : Fitting (frames s file) s h
   pub parameters : given s ≡ true → Whole (s .version) string
 
@@ -138,16 +164,18 @@ accepted s h file string reply e =
     let session = none _ _ (settings .1) in
     let buffer = none _ _ (session .1) in
     let image = none _ _ (buffer .1) in
-    let count = none _ _ (image .1) in
+    let short = none _ _ (image .1) in
+    let count = none _ _ (short .1) in
     let last = none _ _ (count .1) in
     let range = set s (met _ 10 (omega arith) (settings .0)) in
     let whole = sym (cut-image s file range) ∙ image .0 in
     record {
       range = range;
-      below-top = sound-below s h (met _ 10 (omega arith) (session .0));
+      sound = is-sound s h (met _ 10 (omega arith) (session .0));
       room = leb-true _ _ (met _ 9 (omega arith) (buffer .0));
       whole = whole;
       few = omega (arith, many-range file (s .«segment_size») whole .1, frames-few s (many (s .«segment_size») (regions file)) .1);
+      again = few-frames s (frames s file) (met _ 12 (omega arith) (short .0));
       fits = fitting (frames s file) s h (met _ 10 (omega arith) (count .0));
       parameters = string-whole s string (last .0);
     }

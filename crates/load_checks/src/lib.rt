@@ -1,8 +1,9 @@
 // What a call of the host's end of a load refuses, but for its frame (PROTOCOL 5, 'Host end', and 7, 'Refusals').
 ghost use mathlib.Core.Path.{_≡_};
+ghost use mathlib.Core.Bool.{_&&_};
 ghost use Prim.Native.Nat.{_+_, _≤_};
 ghost use Rattle.directory.specs.Directory.{addresses};
-ghost use Rattle.load_checks.specs.Checks.{blank, settled, sound, framesOf, consistent, stringRefusal, denied, ruling};
+ghost use Rattle.load_checks.specs.Checks.{blank, settled, restartsAllowed, sound, framesOf, few, consistent, stringRefusal, denied, ruling};
 use directory::Region;
 use load_record::Session;
 use load_record::Settings;
@@ -32,6 +33,9 @@ fn settled(settings: Settings) -> bool
     if 1 < settings.with_parameters {
         return false;
     }
+    if 1 < settings.restart {
+        return false;
+    }
     version::known(settings.version)
 }
 
@@ -48,10 +52,23 @@ fn blank(session: Session) -> bool
     if session.repeats != 0 {
         return false;
     }
+    if session.restarts != 0 {
+        return false;
+    }
     if session.sent != 0 {
         return false;
     }
     counts::only_ignored(session.counts)
+}
+
+// How many restarts a record may have: none without the setting.
+fn restarts_allowed(settings: Settings) -> u32
+    ensures { λ r. ⌜ r ≡ restartsAllowed settings ⌝ }
+{
+    if settings.restart != 1 {
+        return 0;
+    }
+    load_record::MOST_RESTARTS
 }
 
 // Whether a record is sound, but for what needs n.
@@ -62,6 +79,9 @@ fn sound(settings: Settings, session: Session) -> bool
         return false;
     }
     if settings.repeats < session.repeats {
+        return false;
+    }
+    if restarts_allowed(settings) < session.restarts {
         return false;
     }
     if 1 < session.waiting {
@@ -76,6 +96,16 @@ fn sound(settings: Settings, session: Session) -> bool
     true
 }
 
+// Whether the settings are in range and the record is sound, but for what needs n.
+fn valid(settings: Settings, session: Session) -> bool
+    ensures { λ r. ⌜ r ≡ settled settings && sound settings session ⌝ }
+{
+    if !settled(settings) {
+        return false;
+    }
+    sound(settings, session)
+}
+
 // The number of frames: one for each segment, and one more for a parameter string.
 fn frames(settings: Settings, segments: u64) -> u64
     requires { ⌜ segments ≤ addresses ⌝ }
@@ -87,12 +117,23 @@ fn frames(settings: Settings, segments: u64) -> u64
     segments
 }
 
+// Whether a load has not too many frames to begin again, if it may.
+fn few(settings: Settings, many: u64) -> bool
+    ensures { λ r. ⌜ r ≡ few settings many ⌝ }
+{
+    if settings.restart == 1 {
+        return many <= 256;
+    }
+    true
+}
+
 // Whether a record is sound with so many frames.
 fn consistent(many: u64, settings: Settings, session: Session) -> bool
-    requires { ⌜ (many ≤ addresses + 1) × (settings .repeats ≤ 255) ⌝ }
+    requires { ⌜ (many ≤ addresses + 1) × (settings .repeats ≤ 255) × (session .restarts ≤ 65535) ⌝ }
     ensures { λ r. ⌜ r ≡ consistent many settings session ⌝ }
 {
-    let limit = many * (settings.repeats as u64 + 1);
+    let round = many * (settings.repeats as u64 + 1);
+    let limit = (session.restarts as u64 + 1) * round;
     if many < session.position {
         return false;
     }
@@ -148,10 +189,7 @@ pub fn rule(
 ) -> Ruling
     ensures { λ r. ⌜ r ≡ ruling settings session (now (file .entry)) (now (parameters .entry)) (now (reply .entry)) index ⌝ }
 {
-    if !settled(settings) {
-        return denied(10);
-    }
-    if !sound(settings, session) {
+    if !valid(settings, session) {
         return denied(10);
     }
     if reply.len() < 1500 {
@@ -162,6 +200,9 @@ pub fn rule(
         return denied(a.refusal);
     }
     let many = frames(settings, a.segments);
+    if !few(settings, many) {
+        return denied(12);
+    }
     if !consistent(many, settings, session) {
         return denied(10);
     }

@@ -9,18 +9,27 @@ use Rattle.counts.specs.Counts.{zero, tally}
 use Rattle.load_record.specs.declared.Session.{Session}
 use Rattle.load_record.specs.declared.Next.{Next}
 
+-- the most restarts of a load
+abbrev pub mostRestarts : ℕ
+mostRestarts = 65535
+
 -- a waiting host, all numbers 0
 abbrev pub fresh : Session
-fresh = record { position = 0; sent = 0; counts = zero; repeats = 0; waiting = 1; verdict = 0 }
+fresh = record { position = 0; sent = 0; counts = zero; repeats = 0; restarts = 0; waiting = 1; verdict = 0 }
 
--- this record with other numbers; its counts stay
+-- this record with other numbers; restarts and counts stay
 abbrev pub changed : Session → ℕ → ℕ → ℕ → ℕ → Session
 changed h position repeats waiting verdict =
-    record { position = position; sent = h .sent; counts = h .counts; repeats = repeats; waiting = waiting; verdict = verdict }
+    record { position = position; sent = h .sent; counts = h .counts; repeats = repeats; restarts = h .restarts; waiting = waiting; verdict = verdict }
 
 -- the frame at a position is on its way, not yet repeated
 abbrev pub reached : Session → ℕ → Session
 reached h position = changed h position 0 0 (h .verdict)
+
+-- the load begins again
+abbrev pub restarted : Session → Session
+restarted h =
+    record { position = 0; sent = h .sent; counts = h .counts; repeats = 0; restarts = h .restarts + 1; waiting = 0; verdict = h .verdict }
 
 -- one more repeat is used
 abbrev pub repeated : Session → Session
@@ -50,14 +59,14 @@ more N h = ltb (h .position + 1) N
 abbrev pub running : Session → Next → Next
 running h next = pick (eqb (h .verdict) 0) next (ignores h)
 
--- where it stands, for the counts: c, the waiting mark, the verdict
+-- where it stands, for the counts: c, the restarts, the waiting mark, the verdict
 abbrev pub standing : Session → Standing
-standing h = record { reached = h .position; waiting = h .waiting; verdict = h .verdict }
+standing h = record { reached = h .position; restarts = h .restarts; waiting = h .waiting; verdict = h .verdict }
 
 -- this record with other counts, and what is done next with them
 abbrev pub counting : Counts → Session → Session
 counting counts h =
-    record { position = h .position; sent = h .sent; counts = counts; repeats = h .repeats; waiting = h .waiting; verdict = h .verdict }
+    record { position = h .position; sent = h .sent; counts = counts; repeats = h .repeats; restarts = h .restarts; waiting = h .waiting; verdict = h .verdict }
 
 abbrev pub withCounts : Counts → Next → Next
 withCounts counts next = record { session = counting counts (next .session); sends = next .sends }

@@ -3,29 +3,34 @@ ghost use mathlib.Core.Path.{_≡_};
 ghost use mathlib.Core.Bool.{true, false};
 ghost use Prim.Native.Nat.{_<_, _≤_};
 ghost use Rattle.counts.specs.Counts.{below};
-ghost use Rattle.load_record.specs.Record.{fresh, reached, repeated, ignores, goesOut, ends, more, standing, withCounts, tallied};
+ghost use Rattle.load_record.specs.Record.{fresh, reached, restarted, repeated, ignores, goesOut, ends, more, standing, withCounts, tallied};
 use counts::Counts;
 use counts::Standing;
 
+// The most restarts of a load.
+pub const MOST_RESTARTS: u32 = 65535;
+
 // Its settings: S, the bytes of a segment; R, the repeats allowed per frame; whether a parameter string ends the load (1)
-// or not (0); and the version.
+// or not (0); the version; and whether a request half-way begins the load again (1) or not (0).
 #[repr(C)]
 pub struct Settings {
     pub segment_size: u32,
     pub repeats: u32,
     pub with_parameters: u8,
     pub version: u8,
+    pub restart: u8,
 }
 
 // Its record: c, the frames answered; the frames sent; what the frames that it was handed came to; the repeats of the frame
-// on its way; whether it still waits for a request (1) or not (0); the verdict: 0 running, 1 finished, 2 rejected, 3 given
-// up, 4 unconfirmed.
+// on its way; how often the load began again; whether it still waits for a request (1) or not (0); the verdict: 0 running,
+// 1 finished, 2 rejected, 3 given up, 4 unconfirmed.
 #[repr(C)]
 pub struct Session {
     pub position: u64,
     pub sent: u64,
     pub counts: Counts,
     pub repeats: u32,
+    pub restarts: u32,
     pub waiting: u8,
     pub verdict: u8,
 }
@@ -45,6 +50,7 @@ pub fn start() -> Session
         sent: 0,
         counts: counts::zero(),
         repeats: 0,
+        restarts: 0,
         waiting: 1,
         verdict: 0,
     }
@@ -59,6 +65,21 @@ pub fn reached(h: Session, position: u64) -> Session
     next.repeats = 0;
     next.waiting = 0;
     next
+}
+
+// The load begins again, if there is a number for it.
+pub fn restarted(h: Session) -> Session
+    ensures { λ r. ⌜ (h .restarts < 4294967295 → r ≡ restarted h) × (4294967295 ≤ h .restarts → r ≡ h) ⌝ }
+{
+    if h.restarts == 4294967295 {
+        return h;
+    }
+    let mut anew = h;
+    anew.position = 0;
+    anew.repeats = 0;
+    anew.restarts = h.restarts + 1;
+    anew.waiting = 0;
+    anew
 }
 
 // One more repeat is used, if there is a number for it.
@@ -121,6 +142,7 @@ pub fn standing(h: Session) -> Standing
 {
     Standing {
         reached: h.position,
+        restarts: h.restarts,
         waiting: h.waiting,
         verdict: h.verdict,
     }

@@ -96,9 +96,12 @@ module _ (s : LoadSettings) (h : LoadSession) (file string reply : List ℕ) whe
   load-frame-seen frame =
       let f = fields (s .version) frame in
       called loadVerdict h (loadPassed h) tt reply (first (loadChecks.refusal s h file string reply ∷ f .refusal ∷ []))
-      (loads.does s file string (load.tallied h (loadNext.react N h f)))
+      (loads.does s file string (load.tallied h (loadNext.react N (s .restart) h f)))
       (by-cases Q (eqb (h .verdict) 0) (λ v.
-      by-cases Q (eqb (f .code) 8) (λ _. by-cases Q (eqb (h .waiting) 1 && eqb (f .program) 2) (λ _. out (load.reached h 0)) (λ _. passes)) (λ _.
+      by-cases Q (eqb (f .code) 8) (λ _.
+      by-cases Q (eqb (f .program) 2) (λ _.
+      by-cases Q (eqb (h .waiting) 1) (λ _. out (load.reached h 0)) (λ _.
+      by-cases Q (loadNext.again (s .restart) h) (λ _. out (load.restarted h)) (λ _. passes))) (λ _. passes)) (λ _.
       by-cases Q (eqb (f .code) 10) (λ _.
       by-cases Q (eqb (h .waiting) 0 && eqb (f .number) ((h .position + 1) % 256)) (λ _.
       by-cases Q (eqb (f .error) 0) (λ _.

@@ -26,7 +26,8 @@ use Rattle.link.specs.MachineEnd.{End, machineEnd}
 use Rattle.link.specs.CallLaws.{told-as}
 use Rattle.link.specs.Bounded.{within, runWithin}
 use Rattle.link.specs.Unrefused.{Unrefused}
-use Rattle.link_load.specs.Model.{loadEnds, freshWorld}
+use Rattle.load_checks.specs.Checks as checks
+use Rattle.link_load.specs.Model.{Reset, loadEnds, freshWorld}
 use Rattle.link_load.specs.Audit.{bounded-load, bounded-never-refused}
 use Rattle.rehearse_link.specs.Ring.{framesFrom, frames, Ring}
 use Rattle.rehearse_link.specs.World.{world, eventAt, eventsOf}
@@ -34,7 +35,7 @@ use Rattle.rehearse_link.specs.LetterLaws.{one}
 use Rattle.rehearse_link.specs.TurnLaws.{no-string}
 use Rattle.rehearse_link.specs.StepLaws.{Room, steps}
 
-run-joined : {H M : Type 0} (ends : Ends H M ⊥) (w : World H M) (es fs : List (Event ⊥))
+run-joined : {H M X : Type 0} (ends : Ends H M X) (w : World H M) (es fs : List (Event X))
     → runWithin 16 ends w (es ++ fs) ≡ runWithin 16 ends (runWithin 16 ends w es) fs
 unfolding runWithin
 run-joined ends w [] fs = refl
@@ -53,18 +54,22 @@ empty-ring =
 
 module _ (s : Setup) (file old : List ℕ) (ok : cutRefusal file (s .host .«segment_size») ≡ 0) (o : Octets file) (same : s .machine .version ≡ s .host .version)
     (few : s .host .repeats ≤ 255)
-    (mark : s .host .«with_parameters» ≤ 1) (fresh : machineChecks.refusal (s .machine) machine.requesting (length old) 1500 ≡ 0) where
-  abbrev ends : Ends Session End ⊥
+    (mark : s .host .«with_parameters» ≤ 1) (once : s .host .restart ≡ 0) (fresh : machineChecks.refusal (s .machine) machine.requesting (length old) 1500 ≡ 0) where
+  abbrev ends : Ends Session End (Reset (s .host))
   ends = loadEnds (s .host) (s .machine) file []
 
-  abbrev reached : List (Event ⊥) → World Session End
+  abbrev reached : List (Event (Reset (s .host))) → World Session End
   reached es = runWithin 16 ends (freshWorld (s .machine) old) es
 
-  unrefused : (es : List (Event ⊥)) → length es < top → Unrefused ends (reached es)
-  unrefused es short = bounded-never-refused (s .host) (s .machine) file [] old ok o (no-string (s .host)) same few mark fresh 16 es short
+  -- no restart, and so any number of frames
+  small : checks.few (s .host) (checks.frames (s .host) file) ≡ true
+  small = rw once
+
+  unrefused : (es : List (Event (Reset (s .host)))) → length es < top → Unrefused ends (reached es)
+  unrefused es short = bounded-never-refused (s .host) (s .machine) file [] old ok o (no-string (s .host)) small same few mark (omega (arith, once)) fresh 16 es short
 
   -- ---- letters in turn
-  folds : (es : List (Event ⊥)) (r : Run) → Room r → (k j : ℕ) → reached es ≡ world k j r → (letters : List ℕ) → only events letters ≡ true
+  folds : (es : List (Event (Reset (s .host)))) (r : Run) → Room r → (k j : ℕ) → reached es ≡ world k j r → (letters : List ℕ) → only events letters ≡ true
       → length es + length letters < top
       → (n : ℕ) × (i : ℕ) × (reached (es ++ eventsOf s file r letters) ≡ world n i (after s file r letters))
   unfolding eventsOf after only
@@ -77,7 +82,7 @@ module _ (s : Setup) (file old : List ℕ) (ok : cutRefusal file (s .host .«seg
       run-joined ends (freshWorld (s .machine) old) es (eventAt (r .reply) letter)
       ∙ ap (λ (w : World Session End). runWithin 16 ends w (eventAt (r .reply) letter)) e ∙ x .1 .2 in
       let count : length (es ++ eventAt (r .reply) letter) + length rest < top =
-      rw (length-append es (eventAt (r .reply) letter)) (omega (arith, one (r .reply) letter (letters .0))) in
+      rw (length-append es (eventAt (r .reply) letter)) (omega (arith, one (Reset (s .host)) (r .reply) letter (letters .0))) in
       let z = folds (es ++ eventAt (r .reply) letter) (event s file r letter .run) (x .0) (x .1 .0) (x .1 .1) y rest (letters .1) count in
       (z .0, z .1, ap reached (sym (append-assoc es (eventAt (r .reply) letter) (eventsOf s file (event s file r letter .run) rest))) ∙ z .2)
 
@@ -120,7 +125,7 @@ module _ (s : Setup) (file old : List ℕ) (ok : cutRefusal file (s .host .«seg
         let r = begin s blank .run in
         let last = after s file r letters in
         let x = folds [] r (begins .0) (begins .1 .0) (begins .1 .1) (begins .1 .2) letters are (omega arith) in
-        let c = bounded-load (s .host) (s .machine) file [] old ok o (no-string (s .host)) 16 (eventsOf s file r letters) in
+        let c = bounded-load (s .host) (s .machine) file [] old ok o (no-string (s .host)) small 16 (eventsOf s file r letters) in
         let taken : last .ends .session .sent ≡ x .0 =
         ap (λ (w : World Session End). w .host .sent) (sym (x .2)) ∙ c .counted ∙ ap (λ (w : World Session End). w .taken) (x .2) in
         let heard : sum (last .ends .session .counts) ≡ x .1 =

@@ -63,6 +63,7 @@ pub record Ready (input : List ℕ) (r : Reading) : Type 0 where
   pub octets : Octets (fileOf r)
   pub few : r .job .setup .host .repeats ≤ 255
   pub mark : r .job .setup .host .«with_parameters» ≤ 1
+  pub once : r .job .setup .host .restart ≡ 0
   pub versions : r .job .setup .machine .version ≡ r .job .setup .host .version
   pub no-block : laysBlock (r .job .setup .host) (r .job .setup .machine) ≡ false
   pub settings : refusal (r .job .setup .machine) requesting (r .job .script .memory) 1500 ≡ 0
@@ -91,6 +92,7 @@ ready input space =
           octets = laid-octets (hexadecimal (take (t .«image_length») (drop (t .«image_at») input))) space (spells (take (t .«image_length») (drop (t .«image_at») input)));
           few = a .repeats-most;
           mark = omega arith;
+          once = refl;
           versions = refl;
           no-block = refl;
           settings = accepts t (t .memory) (a .memory-most);

@@ -11,7 +11,7 @@ use Rattle.job.specs.Run.{Run}
 use Rattle.rehearse.specs.Rehearse.{begin, after, fresh, lettersOf, fileOf}
 use Rattle.link.specs.Link.{World, Ends, Event}
 use Rattle.link.specs.MachineEnd.{End}
-use Rattle.link_load.specs.Model.{loadEnds, freshWorld}
+use Rattle.link_load.specs.Model.{Reset, loadEnds, freshWorld}
 use Rattle.rehearse_link.specs.World.{world, eventsOf}
 
 module _ (input : List ℕ) where
@@ -41,13 +41,13 @@ module _ (input : List ℕ) where
 
   -- ---- the same on the link: its ends, its fresh world, its events, and the world that the rehearsal ends in, whose counts of host
   -- frames and of frames handed to the host are the host's own
-  abbrev pub ends : Ends Session End ⊥
+  abbrev pub ends : Ends Session End (Reset (settings .host))
   ends = loadEnds (settings .host) (settings .machine) image []
 
   abbrev pub freshEnds : World Session End
   freshEnds = freshWorld (settings .machine) zeros
 
-  abbrev pub events : List (Event ⊥)
+  abbrev pub events : List (Event (Reset (settings .host)))
   events = eventsOf settings image begun (lettersOf input (asked .job))
 
   abbrev pub worldAtEnd : World Session End

@@ -39,7 +39,7 @@ use Rattle.link.specs.LinkLaws.{handedToMachine, keptToMachine, droppedToMachin
 use Rattle.link.specs.MachineEnd.{End, machineEnd}
 use Rattle.link.specs.Bounded.{within, runWithin}
 use Rattle.link.specs.Unrefused.{Unrefused}
-use Rattle.link_load.specs.Model.{hostEnd, loadEnds}
+use Rattle.link_load.specs.Model.{Reset, hostEnd, loadEnds}
 use Rattle.rehearse_link.specs.Ring.{frames, Ring}
 use Rattle.rehearse_link.specs.RingLaws.{leaves, empty-frames, all-within, leave-ring, sent-ring, sent-frames}
 use Rattle.rehearse_link.specs.World.{world, eventAt}
@@ -73,7 +73,7 @@ left-none q e = rw (eq-eqb (q .many) 0 e) e
 
 module _ (s : Setup) (file : List ℕ) (narrow : s .host .«segment_size» ≤ widest) (r : Run) (room : Room r) (n j : ℕ)
     (u : Unrefused (loadEnds (s .host) (s .machine) file []) (world n j r)) where
-  abbrev ends : link.Ends Session End ⊥
+  abbrev ends : link.Ends Session End (Reset (s .host))
   ends = loadEnds (s .host) (s .machine) file []
 
   abbrev w : World Session End
@@ -105,7 +105,7 @@ module _ (s : Setup) (file : List ℕ) (narrow : s .host .«segment_size» ≤ w
   room-left = omega (arith, room .reply)
 
   -- what a step and its events have
-  P : Step → List (Event ⊥) → Type 0
+  P : Step → List (Event (Reset (s .host))) → Type 0
   P t es = Room (t .run) × ((k : ℕ) × (i : ℕ) × (runWithin 16 ends (world n j r) es ≡ world k i (t .run)))
 
   -- ---- a turn of an end, with the queue that it leaves of the frames to it
@@ -235,12 +235,12 @@ module _ (s : Setup) (file : List ℕ) (narrow : s .host .«segment_size» ≤ w
       some : 0 < from-machine .many → P (hostStep (hostHanded (s .host) file r) q) (own e ∷ [])
       some z =
           let f = first-machine in
-          let react : Fields → Act Session Unit = λ x. load.does (s .host) file [] (tallied h (load-next.react (load-checks.frames (s .host) file) h x)) in
+          let react : Fields → Act Session Unit = λ x. load.does (s .host) file [] (tallied h (load-next.react (load-checks.frames (s .host) file) (s .host .restart) h x)) in
           let accepted = u .hostFrame f (frames (leave from-machine) (r .machinePlaces)) b (leaves from-machine (r .machinePlaces) z) room-left in
           let bytes : length f ≡ 0 → ⊥ = λ k. accepted (no-bytes hostEnd (s .host .version) hostRefusal f h tt b react k) in
           let handed : hostHanded (s .host) file r ≡ loadFrame (s .host) h file [] f b = rw (ne-eqb (length f) 0 bytes) in
           host-acts (hostHanded (s .host) file r) (react (fields (s .host .version) f)) (handed ∙ given hostEnd (first (hostRefusal ∷ fields (s .host .version) f .refusal ∷ [])) h tt b (react (fields (s .host .version) f)) accepted)
-          (host-short (s .host) file (tallied h (load-next.react (load-checks.frames (s .host) file) h (fields (s .host .version) f))) narrow) q g e
+          (host-short (s .host) file (tallied h (load-next.react (load-checks.frames (s .host) file) (s .host .restart) h (fields (s .host .version) f))) narrow) q g e
           (counts ends (w .host) f) (with-one z ∙ ap (λ (x : Outcome Session Unit). hostTurn w (counts ends (w .host) f) (frames q (r .machinePlaces)) (turned hostEnd x)) (sym handed))
 
   -- ---- it leaves, or is kept

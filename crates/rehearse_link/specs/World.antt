@@ -8,6 +8,7 @@ use Rattle.job.specs.declared.Setup.{Setup}
 use Rattle.job.specs.Run.{Run}
 use Rattle.rehearse.specs.Rehearse.{event}
 use Rattle.link.specs.Link.{World, Event, own, handToMachine, keepToMachine, dropToMachine, handToHost, keepToHost, dropToHost, hostTimer, machineTimer}
+use Rattle.link_load.specs.Model.{Reset}
 use Rattle.link.specs.MachineEnd.{End, machineEnd}
 use Rattle.rehearse_link.specs.Ring.{frames}
 
@@ -25,7 +26,7 @@ world taken heard r =
     }
 
 -- a letter's event, its call lent this reply buffer; another letter is none
-abbrev pub eventAt : List ℕ → ℕ → List (Event ⊥)
+abbrev pub eventAt : {X : Type 0} → List ℕ → ℕ → List (Event X)
 eventAt reply letter =
     pick (eqb letter 104) (own (handToMachine reply) ∷ [])
     (pick (eqb letter 107) (own (keepToMachine reply) ∷ [])
@@ -38,6 +39,6 @@ eventAt reply letter =
     [])))))))
 
 -- the events of letters in turn, each with the reply buffer that the rehearsal lends it
-unfoldable pub eventsOf : Setup → List ℕ → Run → List ℕ → List (Event ⊥)
+unfoldable pub eventsOf : (s : Setup) → List ℕ → Run → List ℕ → List (Event (Reset (s .host)))
 eventsOf s file r [] = []
 eventsOf s file r (letter ∷ rest) = eventAt (r .reply) letter ++ eventsOf s file (event s file r letter .run) rest

@@ -9,8 +9,8 @@ use Rattle.load_checks.specs.Checks.{blank}
 use Rattle.load_checks.proofs.blank.Statement.{statement}
 use Rattle.load_checks.proofs.blank.Tie as tie
 
-the-rest : (h : Session) → h .verdict ≡ 0 → h .position ≡ 0 → h .repeats ≡ 0 → h .sent ≡ 0 → onlyIgnored (h .counts) ≡ blank h
-the-rest h v p r s = rw (eq-eqb _ _ v, eq-eqb _ _ p, eq-eqb _ _ r, eq-eqb _ _ s)
+the-rest : (h : Session) → h .verdict ≡ 0 → h .position ≡ 0 → h .repeats ≡ 0 → h .restarts ≡ 0 → h .sent ≡ 0 → onlyIgnored (h .counts) ≡ blank h
+the-rest h v p r e s = rw (eq-eqb _ _ v, eq-eqb _ _ p, eq-eqb _ _ r, eq-eqb _ _ e, eq-eqb _ _ s)
 
 returns : tie.Need-returns
 returns c =
@@ -30,15 +30,20 @@ returns-3 c =
 returns-4 : tie.Need-returns-4
 returns-4 c =
     let a = c .before .before .before .before .before .before .before .before .args in
-    simp (eq-eqb (a .session .verdict) 0 (omega arith), eq-eqb (a .session .position) 0 (omega arith), eq-eqb (a .session .repeats) 0 (omega arith), ne-eqb (a .session .sent) 0 (λ e. omega arith))
+    simp (eq-eqb (a .session .verdict) 0 (omega arith), eq-eqb (a .session .position) 0 (omega arith), eq-eqb (a .session .repeats) 0 (omega arith), ne-eqb (a .session .restarts) 0 (λ e. omega arith))
+
+returns-5 : tie.Need-returns-5
+returns-5 c =
+    let a = c .before .before .before .before .before .before .before .before .before .before .args in
+    simp (eq-eqb (a .session .verdict) 0 (omega arith), eq-eqb (a .session .position) 0 (omega arith), eq-eqb (a .session .repeats) 0 (omega arith), eq-eqb (a .session .restarts) 0 (omega arith), ne-eqb (a .session .sent) 0 (λ e. omega arith))
 
 only-ignored-requires : tie.Need-only-ignored-requires
 only-ignored-requires c κs = search needs
 
-returns-5 : tie.Need-returns-5
-returns-5 c =
-    let a = c .before .before .before .before .before .before .before .before .before .args in
-    c .only-ignored .ensures ∙ the-rest (a .session) (omega arith) (omega arith) (omega arith) (omega arith)
+returns-6 : tie.Need-returns-6
+returns-6 c =
+    let a = c .before .before .before .before .before .before .before .before .before .before .before .args in
+    c .only-ignored .ensures ∙ the-rest (a .session) (omega arith) (omega arith) (omega arith) (omega arith) (omega arith)
 
 pub blank-spec : {M : Type 1} → statement M
-blank-spec = tie.close (tie.spec returns returns-2 returns-3 returns-4 only-ignored-requires returns-5)
+blank-spec = tie.close (tie.spec returns returns-2 returns-3 returns-4 returns-5 only-ignored-requires returns-6)

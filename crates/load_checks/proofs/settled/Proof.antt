@@ -26,13 +26,18 @@ returns-4 c =
     let a = c .before .before .before .before .before .before .before .before .args in
     simp (le-leb 1 (a .settings .«segment_size») (omega arith), le-leb (a .settings .«segment_size») widest (omega arith), le-leb (a .settings .repeats) 255 (omega arith), lt-leb (a .settings .«with_parameters») 1 (omega arith))
 
+returns-5 : tie.Need-returns-5
+returns-5 c =
+    let a = c .before .before .before .before .before .before .before .before .before .before .args in
+    simp (le-leb 1 (a .settings .«segment_size») (omega arith), le-leb (a .settings .«segment_size») widest (omega arith), le-leb (a .settings .repeats) 255 (omega arith), le-leb (a .settings .«with_parameters») 1 (omega arith), lt-leb (a .settings .restart) 1 (omega arith))
+
 known-requires : tie.Need-known-requires
 known-requires c κs = search needs
 
-returns-5 : tie.Need-returns-5
-returns-5 c =
-    let a = c .before .before .before .before .before .before .before .before .before .args in
-    rw (le-leb 1 (a .settings .«segment_size») (omega arith), le-leb (a .settings .«segment_size») widest (omega arith), le-leb (a .settings .repeats) 255 (omega arith), le-leb (a .settings .«with_parameters») 1 (omega arith)) (c .known .ensures)
+returns-6 : tie.Need-returns-6
+returns-6 c =
+    let a = c .before .before .before .before .before .before .before .before .before .before .before .args in
+    rw (le-leb 1 (a .settings .«segment_size») (omega arith), le-leb (a .settings .«segment_size») widest (omega arith), le-leb (a .settings .repeats) 255 (omega arith), le-leb (a .settings .«with_parameters») 1 (omega arith), le-leb (a .settings .restart) 1 (omega arith)) (c .known .ensures)
 
 pub settled-spec : {M : Type 1} → statement M
-settled-spec = tie.close (tie.spec returns returns-2 returns-3 returns-4 known-requires returns-5)
+settled-spec = tie.close (tie.spec returns returns-2 returns-3 returns-4 returns-5 known-requires returns-6)
