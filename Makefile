@@ -136,7 +136,7 @@ examples: $(OUT)/load_and_dump $(OUT)/page
 	$(OUT)/page
 
 # Every call between guard pages, and wrong calls that the test must find; every number of the header, and wrong ones.
-GUARDS = main check lent make steps reading writing images machine windows blocks load strings dump looping
+GUARDS = main check lent make steps reading writing images machine windows blocks load strings restarts dump looping
 
 $(OUT)/guards_%.o: tests/c/%.c $(wildcard tests/c/*.h) include/mop.h
 	@mkdir -p $(OUT)

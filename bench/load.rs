@@ -42,6 +42,7 @@ impl Answered {
                 verdict: Verdict::Running,
                 position,
                 repeats: 0,
+                restarts: 0,
                 sent,
                 counts: Counts::default(),
             }),
@@ -64,6 +65,7 @@ impl Answered {
             repeats: REPEATS,
             with_parameters: job.string.is_some().into(),
             version: VERSION,
+            restart: 0,
         };
         let string = job.string.unwrap_or_default();
         // The pointers are good for these lengths, and reply overlaps nothing.
@@ -90,6 +92,7 @@ impl Answered {
             repeats: REPEATS,
             parameters: job.string,
             version: Version::V3_0,
+            restart: None,
         };
         let mut session = self.plain;
         let sent = load::frame(settings, &mut session, job.file, &self.frame, reply);

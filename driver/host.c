@@ -72,9 +72,10 @@ static int volunteer(host *h, const line_frame *frame)
     return line_send(&h->line, frame->from, offer, written.length);
 }
 
-/* Once the machine has answered, its requests to all hosts go unheard. What comes
- * before the session begins and does not begin it is dropped: the library would
- * count it, and the counts are to be of the machine that is served. */
+/* Once the machine has answered, its requests to all hosts go unheard, unless the
+ * job may begin again. What comes before the session begins and does not begin it
+ * is dropped: the library would count it, and the counts are to be of the machine
+ * that is served. */
 static int take(host *h, line_frame *frame)
 {
     if (h->named && memcmp(frame->from, h->machine, ADDRESS_LENGTH) != 0)
@@ -82,7 +83,7 @@ static int take(host *h, line_frame *frame)
     host_stage stage = h->calls->stage(h->job);
     h->calls->before(h->job, frame);
     if (frame->multicast)
-        return stage == HOST_UNDER_WAY ? 0 : volunteer(h, frame);
+        return stage == HOST_UNDER_WAY && !h->restart ? 0 : volunteer(h, frame);
     if (stage != HOST_WAITING)
         return step(h, frame);
     if (!h->calls->begins(h->job, frame))

@@ -32,6 +32,7 @@ typedef struct host {
     common_settings settings;
     uint8_t machine[ADDRESS_LENGTH]; /* the one served */
     bool named;                      /* by the command line, or by its request */
+    bool restart;                    /* the job begins again when the machine asks again */
     line line;
     int64_t due; /* when the timer runs out */
     uint64_t unreadable;

@@ -374,6 +374,14 @@ line_event line_receive(line *l, line_frame *frame, int64_t deadline)
     }
 }
 
+void line_empty(line *l)
+{
+    uint8_t raw[1];
+    l->again = false;
+    while (recv(l->socket, raw, sizeof raw, MSG_DONTWAIT) >= 0)
+        ;
+}
+
 /* The exit status of what ends a run, with the reason said. */
 static int broken(const line *l, line_event event)
 {

@@ -78,6 +78,9 @@ int line_send(line *l, const uint8_t *to, const uint8_t *message, size_t length)
 /* The next message for this end, until the clock shows the deadline. */
 line_event line_receive(line *l, line_frame *frame, int64_t deadline);
 
+/* Throws away what has come and was not received. */
+void line_empty(line *l);
+
 /* The end that a program is. A call that gives not 0 ends the run with it. */
 typedef struct line_end {
     bool (*over)(const void *end);

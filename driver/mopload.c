@@ -13,7 +13,7 @@
 
 #define SEGMENT_REST (MOP_FRAME_MOST - MOP_SEGMENT_MOST) /* what code 0 has beside the data */
 
-enum { OPTION_ACCEPT = OPTION_JOB, OPTION_VERSION, OPTION_PARAMETERS };
+enum { OPTION_ACCEPT = OPTION_JOB, OPTION_VERSION, OPTION_RESTART, OPTION_PARAMETERS };
 
 typedef struct loading {
     mop_load_settings settings;
@@ -26,8 +26,9 @@ typedef struct loading {
     uint8_t asked;                     /* the type of the last request to this host */
     bool unserved[MOP_PROGRAM_SYSTEM]; /* the types that were said not to be served */
     bool begun;
-    uint64_t resets; /* requests after the machine's first answer */
-    bool early;      /* one came before the last frame was under way */
+    uint64_t resets;   /* requests after the machine's first answer, since the load began again */
+    bool early;        /* one of them came before the last frame was under way */
+    uint32_t restarts; /* those that were told */
     const host *host;
     progress progress;
 } loading;
@@ -83,20 +84,23 @@ static void tell_reset(loading *l, const line_frame *frame)
 }
 
 /* A request of the accepted type becomes one of type 2; show says so when it is
- * served. */
+ * served, also where it begins the load again. */
 static void before(void *job, line_frame *frame)
 {
     loading *l = job;
     mop_fields request = mop_read(l->settings.version, frame->bytes, frame->length);
     if (request.refusal != MOP_ACCEPTED || request.code != MOP_CODE_REQUEST_PROGRAM)
         return;
-    if (l->session.position > 0)
+    const bool again = l->session.position > 0;
+    if (again)
         tell_reset(l, frame);
-    else if (request.program != MOP_PROGRAM_SYSTEM && request.program != l->accept)
+    if (again && !l->settings.restart)
+        return;
+    if (request.program != MOP_PROGRAM_SYSTEM && request.program != l->accept)
         tell_unserved(l, frame, request.program);
     else if (request.program != MOP_PROGRAM_SYSTEM)
         rewrite(frame, &request);
-    if (l->session.waiting)
+    if (l->session.waiting || again)
         l->asked = request.program;
 }
 
@@ -132,13 +136,17 @@ static host_stage stage(const void *job)
     return host_stage_of(session->waiting, session->verdict, session->position);
 }
 
-static void tell_begun(const loading *l)
+static void tell_type(const loading *l)
 {
-    if (l->asked != MOP_PROGRAM_SYSTEM) {
-        char from[ADDRESS_TEXT];
+    char from[ADDRESS_TEXT];
+    if (l->asked != MOP_PROGRAM_SYSTEM)
         printf("%s asks for a %s (type %d): its request goes to the library as type %d (--accept-type %d).\n",
             address_text(l->host->machine, from), program_words(l->asked), l->asked, MOP_PROGRAM_SYSTEM, l->asked);
-    }
+}
+
+static void tell_begun(const loading *l)
+{
+    tell_type(l);
     printf("Loading %s: %" PRIu64 " segments of up to %" PRIu32 " bytes.\n", l->path, l->image.segments,
         l->settings.segment_size);
     if (!l->parameters.given)
@@ -149,6 +157,18 @@ static void tell_begun(const loading *l)
     puts(".");
 }
 
+/* From here on nothing is known of the machine's memory but what is sent anew. */
+static void tell_restart(loading *l)
+{
+    l->restarts = l->session.restarts;
+    l->resets = 0;
+    l->early = false;
+    words_bar_end();
+    tell_type(l);
+    printf("The load begins again with its first segment (restart %" PRIu32 ").\n", l->restarts);
+    fflush(stdout);
+}
+
 static void show(void *job)
 {
     loading *l = job;
@@ -156,6 +176,8 @@ static void show(void *job)
         tell_begun(l);
         l->begun = true;
     }
+    if (l->restarts != l->session.restarts)
+        tell_restart(l);
     progress_show(&l->progress, l->session.position);
 }
 
@@ -168,7 +190,7 @@ static const char manual[] = "NAME\n"
                              "\n"
                              "SYNOPSIS\n"
                              "  mopload -i INTERFACE [--machine ADDRESS] [-S N] [-R N] [--timer MS]\n"
-                             "          [--accept-type N] [--version 2.1|3.0] [--target-name TEXT]\n"
+                             "          [--restart] [--accept-type N] [--version 2.1|3.0] [--target-name TEXT]\n"
                              "          [--target-address ADDRESS] [--host-name TEXT] [--host-address ADDRESS]\n"
                              "          [--time TIME] [--parameters] [--wait S] [--trace FILE] IMAGE\n"
                              "\n"
@@ -193,6 +215,16 @@ static const char manual[] = "NAME\n"
                              "        Bytes of a segment, 1 to 1488. Default 512.\n"
                              "  -R N, --repeats N\n"
                              "        Repeats allowed for each frame, 0 to 255. Default 4.\n"
+                             "  --restart\n"
+                             "        Begin the load again when the machine asks for a program half-way,\n"
+                             "        because it was reset; without it such a load is given up or ends\n"
+                             "        unconfirmed. It must ask within R + 1 times --timer: give a larger -R\n"
+                             "        where its own tests take long. The load has then at most 256 frames,\n"
+                             "        one for the parameters counted: give a larger -S where it has more. A\n"
+                             "        time of now stays that of the first beginning. A program that asks for\n"
+                             "        another before the host has heard that it was started begins the load\n"
+                             "        again too: leave --restart out for a loader that does so on a machine\n"
+                             "        that never answers the last frame.\n"
                              "  --accept-type N\n"
                              "        Serve a machine that asks for a secondary (0) or tertiary (1) loader\n"
                              "        too. Many boot ROMs ask for type 1. The library serves type 2, an\n"
@@ -218,6 +250,7 @@ static void help(void)
     fputs("\n"
           "EXAMPLES\n"
           "  mopload -i eth0 --accept-type 1 -R 1 program.img\n"
+          "  mopload -i eth0 --restart -S 1488 program.img\n"
           "  mopload -i eth0 --target-name MILL --target-address 1.5 --time now program.img\n"
           "  mopload -i eth0 --version 2.1 --target-name MILL --target-address 1.5 program.img\n",
         stdout);
@@ -230,6 +263,10 @@ static int option(int c, const char *value, host *h, loading *l)
         return option_small("-S", value, 1, MOP_ETHERNET_SEGMENT_MOST, &l->settings.segment_size);
     case OPTION_VERSION:
         return option_version(value, &l->settings.version);
+    case OPTION_RESTART:
+        h->restart = true;
+        l->settings.restart = 1;
+        return 0;
     case OPTION_ACCEPT:
         return option_small("--accept-type", value, MOP_PROGRAM_SECONDARY, MOP_PROGRAM_SYSTEM, &l->accept);
     default:
@@ -242,8 +279,9 @@ static int option(int c, const char *value, host *h, loading *l)
 static int options(int count, char **words, host *h, loading *l)
 {
     static const struct option known[] = {HOST_OPTIONS, {"segment", required_argument, NULL, 'S'},
-        {"accept-type", required_argument, NULL, OPTION_ACCEPT}, {"version", required_argument, NULL, OPTION_VERSION},
-        PARAMETERS_OPTIONS(OPTION_PARAMETERS), {NULL, 0, NULL, 0}};
+        {"restart", no_argument, NULL, OPTION_RESTART}, {"accept-type", required_argument, NULL, OPTION_ACCEPT},
+        {"version", required_argument, NULL, OPTION_VERSION}, PARAMETERS_OPTIONS(OPTION_PARAMETERS),
+        {NULL, 0, NULL, 0}};
     for (int c = 0; (c = getopt_long(count, words, "i:S:R:h", known, NULL)) != -1;) {
         int status = option(c, optarg, h, l);
         if (status != 0)
@@ -258,6 +296,29 @@ static int options(int count, char **words, host *h, loading *l)
 
 /* ---- The run --------------------------------------------------------- */
 
+/* The least segment size that makes few enough frames of the image, 0 if none does. */
+static uint32_t restarting_size(const loading *l)
+{
+    for (uint32_t size = l->settings.segment_size; size <= MOP_ETHERNET_SEGMENT_MOST; size++)
+        if (mop_image_check(l->file.bytes, l->file.length, size).segments + l->settings.with_parameters <=
+            MOP_RESTARTING_MOST)
+            return size;
+    return 0;
+}
+
+/* What the library would refuse at every step. */
+static int check_restart(const loading *l)
+{
+    if (!l->settings.restart || frames_of(l) <= MOP_RESTARTING_MOST)
+        return 0;
+    const uint32_t size = restarting_size(l);
+    char way[40] = "";
+    if (size > 0)
+        snprintf(way, sizeof way, "give -S %" PRIu32 " or more, or ", size);
+    return complain(STATUS_USAGE, "--restart is refused (%d): %s, and %s makes %" PRIu64 "; %sleave --restart out",
+        MOP_REFUSED_MANY, refusal_words(MOP_REFUSED_MANY), l->path, frames_of(l), way);
+}
+
 static int read_image(loading *l)
 {
     int status = file_read(l->path, (size_t)4 * MOP_FILE_MOST, &l->file);
@@ -268,7 +329,7 @@ static int read_image(loading *l)
         return complain(STATUS_IMAGE, "%s is refused (%d): %s; mopimage --check tells more", l->path, l->image.refusal,
             refusal_words(l->image.refusal));
     progress_start(&l->progress, l->parameters.given ? "frames" : "segments", frames_of(l));
-    return 0;
+    return check_restart(l);
 }
 
 /* Every frame of the load fits the interface; and the library refuses none of
@@ -294,12 +355,12 @@ static void tell_rejected(const loading *l)
         image_region(&l->file, l->image, segment.address));
 }
 
-/* The frames sent without those that went out for the first time: one for each
- * that was answered, and the one on its way. */
+/* The frames that a timer sent. All others followed a request that was served, or
+ * an answer; the answer that finishes a load is followed by none. */
 static uint64_t repeats_of(const mop_load *session)
 {
-    const uint64_t on_its_way = session->verdict != MOP_LOAD_FINISHED;
-    return session->waiting ? 0 : session->sent - session->position - on_its_way;
+    const uint64_t finished = session->verdict == MOP_LOAD_FINISHED;
+    return session->sent - session->counts.starts - (session->counts.advances - finished);
 }
 
 /* What the machine's memory holds, how the line was, and the status of it. */
@@ -311,8 +372,11 @@ static int conclude(const loading *l, int status)
     else
         load_words(stdout, &l->session, &l->settings, &l->image);
     tell_rejected(l);
+    if (l->session.restarts > 0 && status != STATUS_SHARED)
+        load_restarts_words(stdout, l->session.restarts);
     if (l->resets > 0)
-        load_reset_words(stdout, l->resets, l->session.verdict == MOP_LOAD_UNCONFIRMED && !l->early);
+        load_reset_words(
+            stdout, l->resets, l->session.verdict == MOP_LOAD_UNCONFIRMED && !l->early, l->settings.restart);
     counts_words(stdout, "load", l->session.sent, repeats_of(&l->session), &l->session.counts);
     if (status != 0)
         return status;

@@ -23,6 +23,7 @@ enum {
     OPTION_ROM_FILE,
     OPTION_SAVE,
     OPTION_FORCE,
+    OPTION_RESET,
     OPTION_DEVICE,
     OPTION_PROCESSOR
 };
@@ -41,6 +42,8 @@ typedef struct machine_end {
     bool given;                   /* it was started by parameters */
     uint8_t host[ADDRESS_LENGTH]; /* whom it asks, ASSISTANCE for all */
     unsigned asked;               /* how often without an answer */
+    uint32_t reset_after;         /* it is reset at this frame of the load; 0 for never */
+    uint32_t received;            /* the load's frames that came */
     line line;
     int64_t due;   /* when the timer runs out */
     int64_t limit; /* when it is taken that nobody is there */
@@ -143,6 +146,33 @@ static void tell_answered(machine_end *m, const line_frame *frame, const mop_mac
         tell_rejected(m, &fields);
 }
 
+/* ---- A reset --------------------------------------------------------- */
+
+/* Whether this frame of a load is the one at which the machine is reset. */
+static bool resets(machine_end *m, const line_frame *frame)
+{
+    const mop_fields f = mop_read(m->settings.version, frame->bytes, frame->length);
+    if (f.code != MOP_CODE_LOAD_TRANSFER && f.code != MOP_CODE_LOAD && f.code != MOP_CODE_PARAMETERS)
+        return false;
+    m->received += m->received < UINT32_MAX;
+    return m->received == m->reset_after;
+}
+
+/* As switched off and on: no byte of memory is as it was, but for the ROM. What has come is lost, and nothing is kept. The
+ * machine asks all hosts. */
+static int reset(machine_end *m)
+{
+    const mop_window *rom = &m->settings.window;
+    for (size_t at = 0; at < m->memory.length; at++)
+        if (at < rom->start || at - rom->start >= rom->length)
+            m->memory.bytes[at] ^= 0xFF;
+    printf("The machine is reset at frame %" PRIu32 " of the load.\n", m->reset_after);
+    fflush(stdout);
+    line_empty(&m->line);
+    m->asked = 0;
+    return start(m);
+}
+
 static int take(machine_end *m, const line_frame *frame)
 {
     uint8_t reply[MOP_FRAME_MOST];
@@ -156,6 +186,8 @@ static int take(machine_end *m, const line_frame *frame)
         return 0;
     m->asked = 0;
     m->limit = clock_now() + (int64_t)m->common.wait * 1000;
+    if (resets(m, frame))
+        return reset(m);
     mop_machine_step step = mop_machine_frame(
         m->settings, m->machine, frame->bytes, frame->length, m->memory.bytes, m->memory.length, reply, sizeof reply);
     if (step.answer.length > 0)
@@ -220,8 +252,8 @@ static const char manual[] = "NAME\n"
                              "SYNOPSIS\n"
                              "  mopmachine -i INTERFACE --memory N [--version 2.1|3.0] [--offer]\n"
                              "             [--fill FILE] [--rom START LENGTH [--rom-file FILE]]\n"
-                             "             [--save FILE [--force]] [-D N] [--timer MS] [--wait S]\n"
-                             "             [--trace FILE]\n"
+                             "             [--save FILE [--force]] [--reset-after N] [-D N] [--timer MS]\n"
+                             "             [--wait S] [--trace FILE]\n"
                              "\n"
                              "DESCRIPTION\n"
                              "  The machine end as a process, to rehearse a shift without the machine. It\n"
@@ -262,6 +294,12 @@ static const char manual[] = "NAME\n"
                              "        directory and the files of --fill and --rom-file never are.\n"
                              "  --force\n"
                              "        Replace the file of --save.\n"
+                             "  --reset-after N\n"
+                             "        Be reset once, when the Nth frame of the load has come from the host\n"
+                             "        that was asked, repeats counted, and before that frame is looked at:\n"
+                             "        it is not answered, nor is what has come behind it. Each bit of\n"
+                             "        memory is turned over, but for the ROM. Then the machine asks all\n"
+                             "        hosts for a program again.\n"
                              "  -D N, --dump-most N\n"
                              "        Bytes of a dump reply at most, 1 to 1493. Default 1024.\n"
                              "  --device N, --processor N\n"
@@ -326,6 +364,8 @@ static int option(int c, char **words, machine_end *m)
     case OPTION_FORCE:
         m->save.force = true;
         return 0;
+    case OPTION_RESET:
+        return option_small("--reset-after", value, 1, 1000000000, &m->reset_after);
     case 'D':
         return option_small("-D", value, 1, MOP_ETHERNET_DUMP_DATA_MOST, &m->settings.reply_bytes);
     case OPTION_DEVICE:
@@ -343,9 +383,9 @@ static int options(int count, char **words, machine_end *m)
         {"version", required_argument, NULL, OPTION_VERSION}, {"offer", no_argument, NULL, OPTION_OFFER},
         {"fill", required_argument, NULL, OPTION_FILL}, {"rom", required_argument, NULL, OPTION_ROM},
         {"rom-file", required_argument, NULL, OPTION_ROM_FILE}, {"save", required_argument, NULL, OPTION_SAVE},
-        {"force", no_argument, NULL, OPTION_FORCE}, {"dump-most", required_argument, NULL, 'D'},
-        {"device", required_argument, NULL, OPTION_DEVICE}, {"processor", required_argument, NULL, OPTION_PROCESSOR},
-        {NULL, 0, NULL, 0}};
+        {"force", no_argument, NULL, OPTION_FORCE}, {"reset-after", required_argument, NULL, OPTION_RESET},
+        {"dump-most", required_argument, NULL, 'D'}, {"device", required_argument, NULL, OPTION_DEVICE},
+        {"processor", required_argument, NULL, OPTION_PROCESSOR}, {NULL, 0, NULL, 0}};
     for (int c = 0; (c = getopt_long(count, words, "+i:D:h", known, NULL)) != -1;) {
         int status = option(c, words, m);
         if (status != 0)
@@ -360,6 +400,8 @@ static int options(int count, char **words, machine_end *m)
             refusal_words(MOP_REFUSED_MEMORY));
     if (m->files[ROM] != NULL && m->settings.window.length == 0)
         return complain(STATUS_USAGE, "--rom-file: give --rom START LENGTH too");
+    if (m->offer && m->reset_after != 0)
+        return complain(STATUS_USAGE, "--reset-after is of a load: it does not go with --offer");
     return 0;
 }
 

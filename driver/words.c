@@ -89,6 +89,7 @@ const char *refusal_words(uint8_t refusal)
         [MOP_REFUSED_ROOM] = "a buffer is too short",
         [MOP_REFUSED_RANGE] = "a setting, a version, a length or a range is outside its bounds",
         [MOP_REFUSED_MEMORY] = "version 2.1 needs a memory of at least 64 bytes, for its parameter block",
+        [MOP_REFUSED_MANY] = "a load that may begin again has at most 256 frames, one for its parameters counted",
     };
     return PICK(words, refusal, "a refusal without a meaning");
 }
@@ -151,16 +152,25 @@ void load_shared_words(FILE *out)
         out);
 }
 
-void load_reset_words(FILE *out, uint64_t resets, bool perhaps_started)
+void load_reset_words(FILE *out, uint64_t resets, bool perhaps_started, bool restart)
 {
     fprintf(out, "It asked for a program again %" PRIu64 " time%s after its first answer: ", resets,
         resets == 1 ? "" : "s");
     if (perhaps_started)
         fputs("it was started and the program asks for another, or it was reset. Look at the machine.\n", out);
     else
-        fputs("it was reset in the middle of the load, and the segments before may be gone from its memory. Load it "
-              "again.\n",
-            out);
+        fprintf(out,
+            "it was reset in the middle of the load, and the segments before may be gone from its memory. Load it "
+            "again.%s\n",
+            restart ? "" : " With --restart a load begins again by itself when its machine was reset (see --help).");
+}
+
+void load_restarts_words(FILE *out, uint32_t restarts)
+{
+    fprintf(out,
+        "The load began again %" PRIu32 " time%s, because the machine asked again. What is said of its memory counts "
+        "from the last time on.\n",
+        restarts, restarts == 1 ? "" : "s");
 }
 
 void dump_shared_words(FILE *out)
@@ -396,7 +406,8 @@ void counts_help(FILE *out)
           "  the machine, from the one that began the session on until its end. One that\n"
           "  moved nothing (ignored, in a dump's record) was late, came twice, or was of\n"
           "  no use, such as a request or an offer made again. The answer to a repeat\n"
-          "  that was not needed is one of them. So:\n"
+          "  that was not needed is one of them. A request that began a load again\n"
+          "  (mopload --restart) counts as one that started it. So:\n"
           "\n"
           "    repeats  moved nothing\n"
           "    many     few            frames are lost: suspect the cable and its plugs\n"

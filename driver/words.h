@@ -61,7 +61,8 @@ void dump_words(FILE *out, const mop_dump *session, const mop_dump_settings *set
 
 /* What casts doubt on a verdict, or takes its place. */
 void load_shared_words(FILE *out);
-void load_reset_words(FILE *out, uint64_t resets, bool perhaps_started);
+void load_reset_words(FILE *out, uint64_t resets, bool perhaps_started, bool restart);
+void load_restarts_words(FILE *out, uint32_t restarts);
 void dump_shared_words(FILE *out);
 void dump_offers_words(FILE *out, uint64_t offers);
 

@@ -138,7 +138,8 @@
  * Verdicts. What they say of the machine holds where its end is this library's
  * or does the same, where the line alters no frame and keeps their order (it
  * may lose any and hand over any twice), and where nothing else writes record,
- * memory or buffer. docs/ASSURANCE.md has the theorems.
+ * memory or buffer, but for a reset (see 'The host's load').
+ * docs/ASSURANCE.md has the theorems.
  */
 #ifndef MOP_H
 #define MOP_H
@@ -152,7 +153,7 @@ extern "C" {
 
 /* ---- Numbers --------------------------------------------------------- */
 
-/* The refusals. 1 to 4 are the frame's, 5 to 8 the image file's, 9 to 11
+/* The refusals. 1 to 4 are the frame's, 5 to 8 the image file's, 9 to 12
  * the caller's. A writer gives 2 and 4 for what it was asked to write, and a
  * load's step for its parameter string. */
 enum mop_refusal {
@@ -173,7 +174,8 @@ enum mop_refusal {
     MOP_REFUSED_ROOM = 9,      /* the output or reply buffer is too short */
     MOP_REFUSED_RANGE = 10,    /* a setting, version, length or index is outside
                                   its range, or the record is bad */
-    MOP_REFUSED_MEMORY = 11    /* version 2.1 on a memory of under 64 bytes */
+    MOP_REFUSED_MEMORY = 11,   /* version 2.1 on a memory of under 64 bytes */
+    MOP_REFUSED_MANY = 12      /* a load that may restart has over 256 frames */
 };
 
 /* Whether a step's refusal is the frame's own (1 to 4): 1 or 0. Such a frame
@@ -207,6 +209,9 @@ enum mop_limit {
     MOP_NAME_MOST_2_1 = 6,      /* bytes of a name under version 2.1 */
     MOP_ADDRESS_MOST_2_1 = 2,   /* bytes of an address under version 2.1 */
     MOP_REPEATS_MOST = 255,     /* repeats of a frame */
+    MOP_RESTARTS_MOST = 65535,  /* restarts of a load */
+    MOP_RESTARTING_MOST = 256,  /* frames of a load that may restart, one for
+                                   its parameters counted */
     MOP_FILE_MOST = 16777216,   /* bytes of an image file; the least is 16 */
     MOP_MEMORY_MOST = 16777216, /* bytes of a machine's memory */
     MOP_REGIONS_MOST = 64       /* regions of an image; the least is 1 */
@@ -290,7 +295,9 @@ enum mop_machine_state {
 /* The verdicts of a load of n frames: one for each of its N segments, and one
  * more if it ends with parameters. 'In' is: taken by the machine, a segment's
  * bytes into its memory, the parameters into its record and, under version 2.1,
- * into the parameter block of its memory too. */
+ * into the parameter block of its memory too. Of a machine that is reset after
+ * the verdict the verdict says nothing any more; of one that is reset before,
+ * see 'The host's load'. */
 enum mop_load_verdict {
     MOP_LOAD_RUNNING = 0,    /* not over: the first c or c + 1 frames are in,
                                 c being the record's position; none while it
@@ -678,7 +685,18 @@ mop_machine_step mop_machine_timer(mop_machine_settings settings,
  * mop_write_parameters takes them, and has at most 1,493 bytes. It is judged in
  * every call. To try one before the first call, write it: with the settings'
  * version and a buffer of 1,500 bytes mop_write_parameters refuses what a
- * load's step refuses of the string, and nothing else. */
+ * load's step refuses of the string, and nothing else.
+ *
+ * A machine that is reset half-way asks for a program again. Without the
+ * restart setting that request is ignored: at a position above 0 the load ends
+ * with verdict 3 or 4, or, if it has over 256 frames, perhaps with one that is
+ * not true of the machine, which takes any number 0 for the first. With the
+ * setting the load begins again with its first frame, and what the verdicts say
+ * counts from the reset on: they say it of the memory that the reset left. While
+ * the host has not heard of the reset, neither by the request nor because it
+ * waited or stood at its first frame anyway, the machine is not started, and its
+ * memory is as the reset left it. All this is so where a reset also empties the
+ * line of the frames that were on their way. */
 
 /* A load's settings. */
 typedef struct mop_load_settings {
@@ -686,6 +704,9 @@ typedef struct mop_load_settings {
     uint32_t repeats;        /* R, the repeats allowed per frame, 0 to 255 */
     uint8_t with_parameters; /* 1 if the load ends with parameters, else 0 */
     uint8_t version;         /* MOP_VERSION_.. */
+    uint8_t restart; /* 1 if the load begins again when the machine asks again
+                        half-way, because it was reset; else 0. With 1 a load
+                        has at most 256 frames */
 } mop_load_settings;
 
 /* What the frames came to that a load or a dump was handed: how noisy the line
@@ -694,7 +715,8 @@ typedef struct mop_load_settings {
  * and no frame after the verdict raises any. A step takes each of them up to
  * 2^64 - 2. */
 typedef struct mop_counts {
-    uint64_t starts;     /* it ended the waiting: 0 while waiting, then 1 */
+    uint64_t starts;     /* it ended the waiting, or began a load again: 0 while
+                            waiting, then 1 and one for each restart */
     uint64_t advances;   /* it moved the session on: a load's position, or a
                             dump's filled, rose; the finishing frame too */
     uint64_t ignored;    /* it moved nothing: late, doubled, or of no use */
@@ -703,10 +725,14 @@ typedef struct mop_counts {
 
 /* A load's record. */
 typedef struct mop_load {
-    uint64_t position; /* c, the frames that the machine has answered */
-    uint64_t sent;     /* the frames sent, at most n x (R + 1) */
+    uint64_t position; /* c, the frames that the machine has answered, since
+                          the load last began again if it did */
+    uint64_t sent;     /* the frames sent, at most
+                          (restarts + 1) x n x (R + 1) */
     mop_counts counts; /* what the frames that it was handed came to */
     uint32_t repeats;  /* the repeats of the frame on its way, at most R */
+    uint32_t restarts; /* how often the load began again, at most 65,535;
+                          without the restart setting 0 */
     uint8_t waiting;   /* 1 until a machine asks for a program, then 0 */
     uint8_t verdict;   /* MOP_LOAD_.. */
 } mop_load;
@@ -730,13 +756,16 @@ mop_load mop_load_start(void);
  *          that frame at the start of reply, the bytes behind it as they were.
  *   Refuses, in this order:
  *          10 for a setting, for a record with a verdict above 4, repeats
- *             above the settings', waiting above 1, or one of the four counts
+ *             above the settings', waiting above 1, restarts above 65,535 or,
+ *             without the restart setting, above 0, or one of the four counts
  *             at 2^64 - 1, and for one that waits and has another number, but
  *             for counts.ignored, that is not 0;
  *          9 for the reply buffer;
  *          5, 6, 7 and 8 as mop_image_check does;
- *          10 for a position above n, for sent above n x (R + 1), and for the
- *             verdict 1 at a position other than n, or another one at n;
+ *          12 for the restart setting and an n above 256;
+ *          10 for a position above n, for sent above
+ *             (restarts + 1) x n x (R + 1), and for the verdict 1 at a position
+ *             other than n, or another one at n;
  *          4 for a string that is not whole entries of the version's list, then
  *             2 for one above 1,493 bytes;
  *          1 to 4 for the frame as mop_read does under the settings' version.
@@ -747,7 +776,10 @@ mop_load mop_load_start(void);
  * waiting, and the first frame goes out. Code 10 with the number (c + 1)
  * modulo 256 answers the frame on its way: with error 0 the next one goes
  * out, or, after the last, the load is finished; with another error it is
- * rejected. All else is ignored. */
+ * rejected. With the restart setting, code 8 for an operating system at a
+ * position above 0, after fewer than 65,535 restarts, begins the load again:
+ * the first frame goes out, position and repeats are 0, and restarts and
+ * counts.starts rise by 1. All else is ignored. */
 mop_load_step mop_load_frame(mop_load_settings settings, mop_load session,
     const uint8_t *file, size_t file_length, const uint8_t *parameters,
     size_t parameters_length, const uint8_t *frame, size_t frame_length,

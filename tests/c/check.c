@@ -41,12 +41,13 @@ static const listed list[CALLS] = {
     [MACHINE_FRAME] = {"mop_machine_frame", R(10) | R(11) | R(9) | FRAME},
     [MACHINE_TIMER] = {"mop_machine_timer", R(10) | R(11) | R(9)},
     [LOAD_START] = {"mop_load_start", 0},
-    [LOAD_FRAME] = {"mop_load_frame", R(10) | R(9) | IMAGE | FRAME},
-    [LOAD_TIMER] = {"mop_load_timer", R(10) | R(9) | IMAGE | R(4) | R(2)},
+    [LOAD_FRAME] = {"mop_load_frame", R(10) | R(9) | IMAGE | R(12) | FRAME},
+    [LOAD_TIMER] = {"mop_load_timer",
+        R(10) | R(9) | IMAGE | R(12) | R(4) | R(2)},
     [LOAD_UPDATE_FRAME] = {"mop_load_update_frame",
-        R(10) | R(9) | IMAGE | FRAME},
+        R(10) | R(9) | IMAGE | R(12) | FRAME},
     [LOAD_UPDATE_TIMER] = {"mop_load_update_timer",
-        R(10) | R(9) | IMAGE | R(4) | R(2)},
+        R(10) | R(9) | IMAGE | R(12) | R(4) | R(2)},
     [DUMP_START] = {"mop_dump_start", 0},
     [DUMP_FRAME] = {"mop_dump_frame", R(10) | R(9) | FRAME},
     [DUMP_TIMER] = {"mop_dump_timer", R(10) | R(9)},
@@ -58,7 +59,7 @@ static const listed list[CALLS] = {
 };
 
 static unsigned long
-    seen[CALLS][MOP_REFUSED_MEMORY + 1]; /* how often each answer came */
+    seen[CALLS][MOP_REFUSED_MANY + 1]; /* how often each answer came */
 static unsigned long total;
 static volatile sig_atomic_t current;
 static uint64_t seed;
@@ -83,7 +84,7 @@ void calling(enum call call)
 
 void called(unsigned refusal)
 {
-    demand(refusal <= MOP_REFUSED_MEMORY, "a refusal above 11");
+    demand(refusal <= MOP_REFUSED_MANY, "a refusal above 12");
     demand(mop_refused_frame((uint8_t)refusal) == ((FRAME >> refusal & 1) != 0),
         "mop_refused_frame is wrong");
     seen[current][refusal]++;
@@ -105,7 +106,7 @@ static bool print_call(enum call call)
     const unsigned wanted = list[call].refusals | R(0);
     bool good = true;
     printf("  %-32s", list[call].name);
-    for (unsigned n = 0; n <= MOP_REFUSED_MEMORY; n++) {
+    for (unsigned n = 0; n <= MOP_REFUSED_MANY; n++) {
         const bool came = seen[call][n] > 0, may = (wanted >> n & 1) != 0;
         if (came)
             printf(" %u:%lu", n, seen[call][n]);

@@ -21,14 +21,17 @@ static bool is_bad(const load_input *in)
     const mop_load *h = &in->session;
     if (s->segment_size < 1 || s->segment_size > MOP_SEGMENT_MOST ||
         s->repeats > MOP_REPEATS_MOST || s->with_parameters > 1 ||
-        !is_version(s->version))
+        s->restart > 1 || !is_version(s->version))
         return true;
     if (h->verdict > MOP_LOAD_UNCONFIRMED || h->waiting > 1)
         return true;
-    if (h->repeats > in->settings.repeats || bad_counts(h->counts, h->waiting))
+    if (h->repeats > s->repeats || bad_counts(h->counts, h->waiting))
         return true;
-    return h->waiting == 1 && (h->position != 0 || h->sent != 0 ||
-                                  h->repeats != 0 || h->verdict != 0);
+    if (h->restarts > (s->restart == 1 ? MOP_RESTARTS_MOST : 0))
+        return true;
+    return h->waiting == 1 &&
+           (h->position != 0 || h->sent != 0 || h->repeats != 0 ||
+               h->restarts != 0 || h->verdict != 0);
 }
 
 mop_image load_image(const load_input *in)
@@ -49,9 +52,18 @@ static unsigned string_refusal(const load_input *in)
                                                        : MOP_ACCEPTED;
 }
 
-unsigned load_refusal(const load_input *in)
+/* What the record may not be with n frames. */
+static bool is_beyond(const load_input *in, uint64_t n)
 {
     const mop_load *h = &in->session;
+    const uint64_t loads = (uint64_t)h->restarts + 1;
+    return h->position > n ||
+           h->sent > loads * n * (in->settings.repeats + 1) ||
+           (h->verdict == MOP_LOAD_FINISHED) != (h->position == n);
+}
+
+unsigned load_refusal(const load_input *in)
+{
     if (is_bad(in))
         return MOP_REFUSED_RANGE;
     if (in->room < MOP_FRAME_MOST)
@@ -60,9 +72,9 @@ unsigned load_refusal(const load_input *in)
     const uint64_t n = image.segments + in->settings.with_parameters;
     if (image.refusal != MOP_ACCEPTED)
         return image.refusal;
-    if (h->position > n || h->sent > n * (in->settings.repeats + 1))
-        return MOP_REFUSED_RANGE;
-    if ((h->verdict == MOP_LOAD_FINISHED) != (h->position == n))
+    if (in->settings.restart == 1 && n > MOP_RESTARTING_MOST)
+        return MOP_REFUSED_MANY;
+    if (is_beyond(in, n))
         return MOP_REFUSED_RANGE;
     if (string_refusal(in) != MOP_ACCEPTED)
         return string_refusal(in);
@@ -109,8 +121,8 @@ static mop_load_step make_call(const load_input *in)
 static bool same_but_counts(mop_load a, mop_load b)
 {
     return a.position == b.position && a.sent == b.sent &&
-           a.repeats == b.repeats && a.waiting == b.waiting &&
-           a.verdict == b.verdict;
+           a.repeats == b.repeats && a.restarts == b.restarts &&
+           a.waiting == b.waiting && a.verdict == b.verdict;
 }
 
 static bool same(mop_load a, mop_load b)
@@ -126,9 +138,40 @@ static void check_counts(
     mop_counts counts = h->counts;
     if (!is_timer(in) && refusal == MOP_ACCEPTED &&
         h->verdict == MOP_LOAD_RUNNING)
-        counts = count_frame(counts, h->waiting > after->waiting,
+        counts = count_frame(counts,
+            h->waiting > after->waiting || after->restarts > h->restarts,
             after->position > h->position, after->verdict == MOP_LOAD_REJECTED);
     demand(same_counts(after->counts, counts), "other counts");
+}
+
+/* Whether the frame begins the load again. */
+static bool begins_again(const load_input *in)
+{
+    const mop_load *h = &in->session;
+    const mop_fields f =
+        mop_read(in->settings.version, in->frame, in->frame_length);
+    return !is_timer(in) && in->settings.restart == 1 &&
+           f.code == MOP_CODE_REQUEST_PROGRAM &&
+           f.program == MOP_PROGRAM_SYSTEM && h->waiting == 0 &&
+           h->verdict == MOP_LOAD_RUNNING && h->position > 0 &&
+           h->restarts < MOP_RESTARTS_MOST;
+}
+
+/* What such a frame leaves, and that no other does. */
+static void check_restart(
+    const load_input *in, unsigned refusal, const mop_load_step *step)
+{
+    mop_load wanted = in->session;
+    const bool again = refusal == MOP_ACCEPTED && begins_again(in);
+    demand(step->session.restarts == in->session.restarts + again,
+        "not the restarts");
+    if (!again)
+        return;
+    wanted.position = wanted.repeats = 0;
+    wanted.restarts += 1;
+    wanted.sent += 1;
+    demand(step->answer.length > 0 && same_but_counts(step->session, wanted),
+        "not begun again");
 }
 
 /* The frame that stands in reply is the load's at this position. */
@@ -165,6 +208,7 @@ static void check_answer(
         demand(same_but_counts(step.session, in->session),
             "neither taken nor ignored");
     check_counts(in, refusal, &step.session);
+    check_restart(in, refusal, &step);
     if (step.answer.length > 0) {
         check_frame(in, step.session.position, step.answer.length);
         demand(step.session.sent == in->session.sent + 1, "another count");
@@ -238,6 +282,7 @@ static void any_settings(load_input *in)
     random_bytes((uint8_t *)&in->settings, sizeof in->settings);
     in->settings.with_parameters = (uint8_t)(once_in(8) ? hostile() : below(2));
     in->settings.version = any_version();
+    in->settings.restart = (uint8_t)(once_in(16) ? hostile() : below(2));
     any_string(in);
     in->settings.segment_size =
         (uint32_t)(once_in(8) ? hostile() : 1 + below(once_in(2) ? 8 : 1490));
@@ -255,6 +300,11 @@ static void any_record(load_input *in, uint64_t n)
     h->verdict = (uint8_t)(once_in(4) ? below(6) : 0);
     h->position = h->verdict == MOP_LOAD_FINISHED ? n : below(n + 1);
     h->repeats = (uint32_t)below(r);
+    h->restarts = 0;
+    if (in->settings.restart == 1 && !once_in(3))
+        h->restarts = (uint32_t)(MOP_RESTARTS_MOST - below(3));
+    if (once_in(16))
+        h->restarts = (uint32_t)hostile();
     h->sent = n == 0 ? 0 : below(n * r + 1);
     h->counts = any_counts(h->waiting == 1);
     if (once_in(8))
@@ -279,11 +329,11 @@ static void any_load_frame(load_input *in)
     in->frame_length = any_frame(in->frame);
     if (once_in(3))
         return;
-    const bool waits = in->session.waiting == 1;
-    in->frame_length = make_frame(waits ? 8 : 10, in->frame);
-    if (waits && !once_in(4))
+    const bool asks = in->session.waiting == 1 || once_in(6);
+    in->frame_length = make_frame(asks ? 8 : 10, in->frame);
+    if (asks && !once_in(4))
         in->frame[3] = MOP_PROGRAM_SYSTEM;
-    if (!waits) {
+    if (!asks) {
         in->frame[1] = (uint8_t)(in->session.position + 1 - once_in(8));
         in->frame[2] = (uint8_t)(once_in(4) ? hostile() : 0);
     }

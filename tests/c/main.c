@@ -24,6 +24,7 @@ int main(int argc, char **argv)
     test_blocks();
     test_load();
     test_strings();
+    test_restarts();
     test_dump();
     test_loop();
     return print_calls() ? 0 : 1;

@@ -195,6 +195,36 @@ static int load_refusal(size_t string_length)
         .answer.refusal;
 }
 
+/* Of a load of so many segments that may begin again, after so many restarts;
+ * it ends with an empty string or not. */
+static int restart_refusal(size_t segments, uint8_t with, uint32_t restarts)
+{
+    const size_t size = segments + 12 + 16;
+    const mop_load_settings s = {.segment_size = 1,
+        .with_parameters = with,
+        .version = VERSION,
+        .restart = 1};
+    const mop_load h = {.sent = 1, .restarts = restarts};
+    make_image(size, 1);
+    put(large + size - 16 - 4, segments);
+    return mop_load_timer(s, h, large, size, NULL, 0, out, sizeof out)
+        .answer.refusal;
+}
+
+static void test_restarts(void)
+{
+    demand(restart_refusal(MOP_RESTARTING_MOST, 0, 0) == MOP_ACCEPTED &&
+               restart_refusal(MOP_RESTARTING_MOST - 1, 1, 0) == MOP_ACCEPTED,
+        "the most frames of a load that may begin again");
+    demand(restart_refusal(MOP_RESTARTING_MOST + 1, 0, 0) == MOP_REFUSED_MANY &&
+               restart_refusal(MOP_RESTARTING_MOST, 1, 0) == MOP_REFUSED_MANY,
+        "more frames than those");
+    demand(
+        restart_refusal(2, 0, MOP_RESTARTS_MOST) == MOP_ACCEPTED &&
+            restart_refusal(2, 0, MOP_RESTARTS_MOST + 1) == MOP_REFUSED_RANGE,
+        "the most restarts");
+}
+
 static void test_settings(void)
 {
     demand(load_refusal(MOP_PARAMETERS_MOST) == MOP_ACCEPTED &&
@@ -486,6 +516,7 @@ int main(void)
     test_frames();
     test_ethernet();
     test_settings();
+    test_restarts();
     test_windows();
     test_programs();
     test_versions();

@@ -14,7 +14,8 @@ void test_machine(void);
 void test_windows(void); /* after test_machine, whose buffers it uses */
 void test_blocks(void);  /* as well */
 void test_load(void);
-void test_strings(void); /* after test_load, whose buffers it uses */
+void test_strings(void);  /* after test_load, whose buffers it uses */
+void test_restarts(void); /* as well */
 void test_dump(void);
 void test_loop(void);
 

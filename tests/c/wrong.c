@@ -137,6 +137,28 @@ static inline int lays_block(
 }
 #endif
 
+#if WRONG >= 64
+/* Whether a machine asks a load that runs for an operating system. */
+static inline int asked(const mop_load_settings *settings,
+    const mop_load *session, const uint8_t *frame, size_t length)
+{
+    const mop_fields f = mop_read(settings->version, frame, length);
+    return session->waiting == 0 && session->verdict == MOP_LOAD_RUNNING &&
+           f.code == MOP_CODE_REQUEST_PROGRAM &&
+           f.program == MOP_PROGRAM_SYSTEM;
+}
+
+/* n, 0 for an image that is refused. */
+static inline uint64_t frames(
+    const mop_load_settings *settings, const uint8_t *file, size_t size)
+{
+    const mop_image image = mop_image_check(file, size, settings->segment_size);
+    return image.refusal == MOP_ACCEPTED
+               ? image.segments + (settings->with_parameters == 1)
+               : 0;
+}
+#endif
+
 #if WRONG == 1 /* looks at the byte behind the frame */
 mop_fields WRAP(mop_read)(uint8_t version, const uint8_t *frame, size_t length)
 {
@@ -646,5 +668,163 @@ WRONG_DUMP_TIMER
     if (session->waiting == 1)
         session->counts.starts = starts;
     return answer;
+}
+#elif WRONG == 64 /* begins again at its first frame too */
+WRONG_LOAD_FRAME
+{
+    if (asked(&settings, session, frame, length) && settings.restart == 1 &&
+        session->position == 0 && frames(&settings, file, size) > 1)
+        session->position = 1;
+    return REAL_LOAD_FRAME;
+}
+#elif WRONG == 65 /* keeps the repeats when it begins again */
+WRONG_LOAD_FRAME
+{
+    const mop_load before = *session;
+    const mop_written answer = REAL_LOAD_FRAME;
+    if (session->restarts > before.restarts)
+        session->repeats = before.repeats;
+    return answer;
+}
+#elif WRONG == 66 /* does not count a restart among the starts */
+WRONG_LOAD_FRAME
+{
+    const mop_load before = *session;
+    const mop_written answer = REAL_LOAD_FRAME;
+    if (session->restarts > before.restarts) {
+        session->counts.starts -= 1;
+        session->counts.ignored += 1;
+    }
+    return answer;
+}
+#elif WRONG == 67 /* does not count the restarts */
+WRONG_LOAD_FRAME
+{
+    const uint32_t restarts = session->restarts;
+    const mop_written answer = REAL_LOAD_FRAME;
+    session->restarts = restarts;
+    return answer;
+}
+#elif WRONG == 68 /* begins again after 65,535 restarts */
+WRONG_LOAD_FRAME
+{
+    if (asked(&settings, session, frame, length) &&
+        session->restarts == MOP_RESTARTS_MOST &&
+        session->sent < MOP_RESTARTS_MOST)
+        session->restarts -= 1;
+    return REAL_LOAD_FRAME;
+}
+#elif WRONG == 69 /* begins again without the setting */
+WRONG_LOAD_FRAME
+{
+    if (asked(&settings, session, frame, length) && session->restarts == 0 &&
+        settings.restart == 0 &&
+        frames(&settings, file, size) <= MOP_RESTARTING_MOST)
+        settings.restart = 1;
+    return REAL_LOAD_FRAME;
+}
+#elif WRONG == 70 /* begins again for every program type */
+WRONG_LOAD_FRAME
+{
+    uint8_t other[MOP_FRAME_MOST];
+    const mop_fields f = mop_read(settings.version, frame, length);
+    if (f.code == MOP_CODE_REQUEST_PROGRAM && session->waiting == 0) {
+        memcpy(other, frame, length);
+        other[3] = MOP_PROGRAM_SYSTEM;
+        frame = other;
+    }
+    return REAL_LOAD_FRAME;
+}
+#elif WRONG == 71 /* begins again after a verdict */
+WRONG_LOAD_FRAME
+{
+    const uint8_t verdict = session->verdict;
+    if (verdict == MOP_LOAD_GIVEN_UP && settings.restart == 1)
+        session->verdict = MOP_LOAD_RUNNING;
+    const mop_written answer = REAL_LOAD_FRAME;
+    if (answer.length == 0)
+        session->verdict = verdict;
+    return answer;
+}
+#elif WRONG == 72 /* refuses 256 frames */
+WRONG_LOAD_TIMER
+{
+    mop_load_step step = REAL_LOAD_TIMER;
+    if (step.answer.refusal == MOP_ACCEPTED && settings.restart == 1 &&
+        frames(&settings, file, size) == MOP_RESTARTING_MOST)
+        step.answer.refusal = MOP_REFUSED_MANY;
+    return step;
+}
+#elif WRONG == 73 /* leaves the parameter frame out of the 256 */
+WRONG_LOAD_TIMER
+{
+    if (settings.with_parameters == 1 && settings.restart == 1 &&
+        session.restarts == 0 &&
+        frames(&settings, file, size) == MOP_RESTARTING_MOST + 1)
+        settings.restart = 0;
+    return REAL_LOAD_TIMER;
+}
+#elif WRONG == 74 /* refuses in another order: a position above n before 12 */
+WRONG_LOAD_TIMER
+{
+    mop_load_step step = REAL_LOAD_TIMER;
+    if (step.answer.refusal == MOP_REFUSED_MANY &&
+        session.position > frames(&settings, file, size))
+        step.answer.refusal = MOP_REFUSED_RANGE;
+    return step;
+}
+#elif WRONG == 75 /* refuses in another order: the string before 12 */
+WRONG_LOAD_TIMER
+{
+    mop_load_step step = REAL_LOAD_TIMER;
+    if (step.answer.refusal == MOP_REFUSED_MANY &&
+        settings.with_parameters == 1 && length == 1)
+        step.answer.refusal = MOP_REFUSED_FIELD;
+    return step;
+}
+#elif WRONG == 76 /* refuses in another order: 12 before 9 */
+WRONG_LOAD_TIMER
+{
+    mop_load_step step = REAL_LOAD_TIMER;
+    if (step.answer.refusal == MOP_REFUSED_ROOM && settings.restart == 1 &&
+        frames(&settings, file, size) > MOP_RESTARTING_MOST)
+        step.answer.refusal = MOP_REFUSED_MANY;
+    return step;
+}
+#elif WRONG == 77 /* takes 65,536 restarts */
+WRONG_LOAD_TIMER
+{
+    const uint32_t restarts = session.restarts;
+    if (restarts == MOP_RESTARTS_MOST + 1)
+        session.restarts -= 1;
+    mop_load_step step = REAL_LOAD_TIMER;
+    step.session.restarts = restarts;
+    return step;
+}
+#elif WRONG == 78 /* takes restarts without the setting */
+WRONG_LOAD_TIMER
+{
+    const uint32_t restarts = session.restarts;
+    if (settings.restart == 0)
+        session.restarts = 0;
+    mop_load_step step = REAL_LOAD_TIMER;
+    step.session.restarts = restarts;
+    return step;
+}
+#elif WRONG == 79 /* takes every number for the setting */
+WRONG_LOAD_TIMER
+{
+    settings.restart = settings.restart != 0;
+    return REAL_LOAD_TIMER;
+}
+#elif WRONG == 80 /* takes no more frames sent for a restart */
+WRONG_LOAD_TIMER
+{
+    mop_load_step step = REAL_LOAD_TIMER;
+    if (step.answer.refusal == MOP_ACCEPTED &&
+        session.sent > frames(&settings, file, size) * (settings.repeats + 1))
+        step = (mop_load_step){
+            .session = session, .answer = {.refusal = MOP_REFUSED_RANGE}};
+    return step;
 }
 #endif

@@ -14,7 +14,10 @@ wrong=(mop_read mop_read mop_read mop_write_loop mop_write_loop mop_write_loop m
     mop_machine_frame mop_machine_frame mop_machine_timer mop_machine_timer mop_machine_timer
     mop_read mop_load_timer mop_load_update_frame mop_load_update_frame mop_load_update_frame
     mop_load_update_frame mop_load_update_frame mop_load_timer mop_load_timer mop_dump_frame mop_dump_frame
-    mop_dump_update_timer mop_dump_update_timer mop_dump_update_timer)
+    mop_dump_update_timer mop_dump_update_timer mop_dump_update_timer
+    mop_load_update_frame mop_load_update_frame mop_load_update_frame mop_load_update_frame mop_load_update_frame
+    mop_load_update_frame mop_load_update_frame mop_load_update_frame mop_load_timer mop_load_timer mop_load_timer
+    mop_load_timer mop_load_timer mop_load_timer mop_load_timer mop_load_timer mop_load_timer)
 found=0
 for i in "${!wrong[@]}"; do
     n=$((i + 1)) call=${wrong[$i]}

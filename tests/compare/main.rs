@@ -66,6 +66,11 @@ fn main() -> ExitCode {
         commas(sum(|tally| tally.sums)),
     );
     println!(
+        "compare: {} steps that began a load again, {} resets in runs over the link",
+        commas(sum(|tally| tally.ends.restarts)),
+        commas(sum(|tally| tally.ends.resets)),
+    );
+    println!(
         "compare: {} frames, {} images, {} steps of the ends, {} differences",
         commas(sum(|tally| tally.frames)),
         commas(sum(|tally| tally.images)),

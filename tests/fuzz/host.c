@@ -1,5 +1,5 @@
-/* Sessions of a host: raw frames of a machine that mostly answers well, mutated ones, those of strangers, and timers. The
- * counts of its record may be any. */
+/* Sessions of a host: raw frames of a machine that mostly answers well, mutated ones, those of strangers, and timers. A load
+ * may begin again. The counts of its record may be any. */
 #include "../../driver/host.c" // NOLINT(bugprone-suspicious-include)
 
 #include <stdlib.h>
@@ -120,12 +120,24 @@ static mop_counts any_counts(bool waits)
     return counts;
 }
 
+/* Restarts about the most that there may be; of a record that waits, or may not begin again, 0. */
+static void any_restarts(session *s)
+{
+    if (!s->dump && s->load_settings.restart == 1 && stage_of(s) != HOST_WAITING)
+        s->load.restarts = MOP_RESTARTS_MOST - 2 + below(4);
+}
+
 /* Whether they are those of a record that every call refuses. */
 static bool bad_counts(const mop_counts *c, bool waits)
 {
     if (c->starts == UINT64_MAX || c->advances == UINT64_MAX || c->ignored == UINT64_MAX || c->rejections == UINT64_MAX)
         return true;
     return waits && (c->starts != 0 || c->advances != 0 || c->rejections != 0);
+}
+
+static bool bad_record(session *s)
+{
+    return bad_counts(counts_of(s), stage_of(s) == HOST_WAITING) || s->load.restarts > MOP_RESTARTS_MOST;
 }
 
 /* Of the frames counted, one at least, those that moved nothing in tenths of a percent, with as many digits as it takes. */
@@ -172,9 +184,9 @@ static bool same_record(const session *a, const session *b)
 {
     const mop_load *x = &a->load, *y = &b->load;
     const mop_dump *u = &a->taken, *v = &b->taken;
-    return x->position == y->position && x->sent == y->sent && x->repeats == y->repeats && x->waiting == y->waiting &&
-           x->verdict == y->verdict && u->filled == v->filled && u->replies == v->replies && u->sent == v->sent &&
-           u->repeats == v->repeats && u->waiting == v->waiting && u->verdict == v->verdict;
+    return x->position == y->position && x->sent == y->sent && x->repeats == y->repeats && x->restarts == y->restarts &&
+           x->waiting == y->waiting && x->verdict == y->verdict && u->filled == v->filled && u->replies == v->replies &&
+           u->sent == v->sent && u->repeats == v->repeats && u->waiting == v->waiting && u->verdict == v->verdict;
 }
 
 static void check_buffer(const session *s)
@@ -209,13 +221,36 @@ static size_t check_sent(const host *h, const session *s, const line_frame *fram
     return count;
 }
 
+/* A request to this host alone, once the machine has answered, begins a load again if it may; then its first frame is on its
+ * way. Nothing else does. */
+static void check_restart(const session *before, const session *s, const line_frame *frame, bool handed)
+{
+    const mop_load *old = &before->load, *now = &s->load;
+    bool asks = handed && !before->dump && would_begin(before, frame);
+    bool again = asks && stage_of(before) == HOST_UNDER_WAY && before->load_settings.restart == 1 &&
+                 old->restarts < MOP_RESTARTS_MOST;
+    require(now->restarts == old->restarts + again, "a load begins again when it is asked again, and at no other time");
+    require(!again || (now->position == 0 && now->repeats == 0 && now->sent == old->sent + 1),
+        "a load that begins again sends its first frame");
+}
+
+/* A request to all hosts that would be served is offered assistance, once the machine has answered only if it may begin
+ * again. */
+static void check_offer(const host *h, const session *before, const line_frame *frame, bool foreign, size_t sent)
+{
+    bool may = stage_of(before) != HOST_UNDER_WAY || h->restart;
+    bool offered = frame->multicast && !foreign && may && would_begin(before, frame);
+    require(!frame->multicast || sent == offered, "a request to all hosts is offered assistance or not");
+}
+
 /* A frame that is counted raises one count by one, by what it did; all else leaves them. */
 static void check_counts(session *before, session *s, bool counted)
 {
     mop_counts wanted = *counts_of(before);
     const mop_counts *now = counts_of(s);
     const uint64_t moved = s->load.position - before->load.position + s->taken.filled - before->taken.filled;
-    if (counted && stage_of(before) == HOST_WAITING && stage_of(s) != HOST_WAITING)
+    const bool begun = stage_of(before) == HOST_WAITING && stage_of(s) != HOST_WAITING;
+    if (counted && (begun || s->load.restarts > before->load.restarts))
         wanted.starts += 1;
     else if (counted && moved > 0)
         wanted.advances += 1;
@@ -247,13 +282,15 @@ static bool hand_frame(host *h, session *s)
     bool readable = mop_read(s->load_settings.version, frame.bytes, frame.length).refusal == MOP_ACCEPTED;
     bool waits = stage_of(s) == HOST_WAITING;
     bool handed = !foreign && !frame.multicast && (!waits || would_begin(s, &frame));
-    bool refused = handed && (!is_version(s->load_settings.version) || bad_counts(counts_of(s), waits));
+    bool refused = handed && (!is_version(s->load_settings.version) || bad_record(s));
     bool begins = handed && waits, named = h->named || begins;
     require(take(h, &frame) == (refused ? STATUS_OTHER : 0), "a frame ends a good session by no error");
     require(h->named == named && (!begins || memcmp(h->machine, frame.from, ADDRESS_LENGTH) == 0),
         "the machine is the one that the session begins with");
     check_counts(&before, s, handed && readable && !refused);
+    check_restart(&before, s, &frame, handed && !refused);
     size_t count = check_sent(h, s, &frame);
+    check_offer(h, &before, &frame, foreign, count);
     require(!foreign || (count == 0 && same_record(&before, s)), "a stranger's frame does nothing");
     require((readable && !frame.multicast) || same_record(&before, s), "the record is as it was");
     require(readable || count == 0, "a frame that cannot be read is not answered");
@@ -267,7 +304,7 @@ static bool run_timer(host *h, session *s)
     session before = *s;
     if (stage_of(s) == HOST_WAITING)
         return true;
-    bool refused = bad_counts(counts_of(s), false);
+    bool refused = bad_record(s);
     require(silence(h) == (refused ? STATUS_OTHER : 0), "a timer ends a good session by no error");
     check_counts(&before, s, false);
     check_sent(h, s, NULL);
@@ -287,8 +324,11 @@ static void make_session(session *s)
     s->load = mop_load_start();
     s->taken = mop_dump_start();
     const uint8_t version = any_version();
-    s->load_settings = (mop_load_settings){
-        .segment_size = 10 + below(200), .repeats = below(8), .with_parameters = one_in(2), .version = version};
+    s->load_settings = (mop_load_settings){.segment_size = 10 + below(200),
+        .repeats = below(8),
+        .with_parameters = one_in(2),
+        .version = version,
+        .restart = one_in(2)};
     s->string_length = any_entries(version, s->string, sizeof s->string);
     s->dump_settings = (mop_dump_settings){.length = DUMP_LENGTH,
         .address = below(1000),
@@ -307,12 +347,15 @@ static bool fuzz_session(bool dump)
     h.calls = &job_calls;
     h.job = &s;
     h.named = one_in(4);
+    h.restart = !dump && s.load_settings.restart == 1;
     memcpy(h.machine, PEER, ADDRESS_LENGTH);
     line_make(&h.line);
     bool goes_on = true;
     for (unsigned event = 0; event < 80 && goes_on && stage_of(&s) != HOST_OVER; event++) {
         if (one_in(60))
             *counts_of(&s) = any_counts(stage_of(&s) == HOST_WAITING);
+        if (one_in(60))
+            any_restarts(&s);
         goes_on = one_in(8) ? run_timer(&h, &s) : hand_frame(&h, &s);
         check_buffer(&s);
     }

@@ -71,6 +71,16 @@ static bool in_rom(const mop_window *rom, uint64_t at, uint64_t length)
     return false;
 }
 
+/* A reset turns each bit of memory over, but for the ROM, and the machine asks all hosts. */
+static void check_reset(const machine_end *m, uint8_t *old)
+{
+    for (size_t i = 0; i < m->memory.length; i++)
+        old[i] ^= (uint8_t)(in_rom(&m->settings.window, i, 1) ? 0 : 0xFF);
+    require(memcmp(old, m->memory.bytes, m->memory.length) == 0, "no byte but the ROM's outlives a reset");
+    require(m->machine.state == MOP_MACHINE_REQUESTING && memcmp(m->host, ASSISTANCE, ADDRESS_LENGTH) == 0,
+        "a machine that was reset asks all hosts");
+}
+
 /* Memory is the old one, or the old one with the frame's data, or its parameter block, laid over it beside the ROM. */
 static void check_memory(const machine_end *m, uint8_t *old, const line_frame *frame, bool foreign)
 {
@@ -120,6 +130,14 @@ static void check_kept(const machine_end *m, const mop_machine *before, const li
     tell_state(m);
 }
 
+/* The frames of a load are counted, if they come from the host that was asked. */
+static void check_received(const machine_end *m, uint32_t before, const line_frame *frame, bool foreign)
+{
+    const uint8_t code = mop_read(m->settings.version, frame->bytes, frame->length).code;
+    bool load = code == MOP_CODE_LOAD || code == MOP_CODE_LOAD_TRANSFER || code == MOP_CODE_PARAMETERS;
+    require(m->received == before + (load && !foreign), "the frames of a load are counted");
+}
+
 static void hand_frame(machine_end *m)
 {
     uint8_t message[MOP_FRAME_MOST], old[MEMORY_MOST];
@@ -133,11 +151,18 @@ static void hand_frame(machine_end *m)
     if (!taken)
         return;
     const mop_machine before = m->machine;
+    const uint32_t received = m->received;
     bool chosen = memcmp(m->host, ASSISTANCE, ADDRESS_LENGTH) != 0;
     bool foreign = frame.multicast || memcmp(frame.from, m->host, ADDRESS_LENGTH) != 0;
     memcpy(old, m->memory.bytes, m->memory.length);
     require(hand_over(m, &frame) == 0, "no frame ends a machine by an error");
     size_t count = check_sent(m);
+    check_received(m, received, &frame, foreign);
+    if (m->received != received && m->received == m->reset_after) {
+        check_reset(m, old);
+        require(count == 1, "a machine that was reset asks at once");
+        return;
+    }
     check_memory(m, old, &frame, foreign);
     check_kept(m, &before, &frame);
     bool same = before.state == m->machine.state && before.expected == m->machine.expected &&
@@ -181,6 +206,7 @@ static void make_machine(machine_end *m)
     m->settings.version = any_version();
     any_rom(&m->settings.window);
     m->offer = one_in(4);
+    m->reset_after = m->offer || one_in(2) ? 0 : 1 + below(12);
     line_make(&m->line);
 }
 

@@ -4,7 +4,7 @@
 /// these.
 #[derive(Clone, Copy, Debug, Default, PartialEq, Eq)]
 pub struct Counts {
-    /// Those that ended the waiting.
+    /// Those that ended the waiting, or began a load again.
     pub starts: u64,
     /// Those that moved the session on, the last one too.
     pub advances: u64,

@@ -4,12 +4,16 @@ use crate::counts::Counts;
 use crate::entries;
 use crate::frame::{self, Frame};
 use crate::image::{self, Image, SEGMENT_MOST};
-use crate::refusal::{BAD_RECORD, BAD_SETTING, OUTSIDE_LIST, Refusal, TOO_LONG};
+use crate::refusal::{BAD_RECORD, BAD_SETTING, OUTSIDE_LIST, Refusal, TOO_LONG, TOO_MANY};
 use crate::step::{Reply, Sent, Verdict, check_most, check_repeats, good_record};
 use crate::version::Version;
 
 /// No parameter string is longer: code 20 has 7 bytes besides.
 pub const STRING_MOST: usize = 1493;
+/// A load begins again no more often than this.
+pub const RESTARTS_MOST: u32 = 65_535;
+/// No load that may begin again has more frames.
+pub const RESTARTING_MOST: u64 = 256;
 
 const OPERATING_SYSTEM: u8 = 2;
 
@@ -23,6 +27,18 @@ pub struct Settings<'a> {
     /// The parameter string that the load ends with, perhaps an empty one.
     pub parameters: Option<&'a [u8]>,
     pub version: Version,
+    /// Set if a load begins again where the machine asks again half-way: the
+    /// most frames of such a load.
+    pub restart: Option<u64>,
+}
+
+/// The restart setting of this mark.
+pub fn restart(mark: u8) -> Result<Option<u64>, Refusal> {
+    match mark {
+        0 => Ok(None),
+        1 => Ok(Some(RESTARTING_MOST)),
+        _ => Err(BAD_SETTING),
+    }
 }
 
 /// The string, if its mark says that one is given; otherwise it is not looked
@@ -52,6 +68,8 @@ pub struct Progress {
     pub position: u64,
     /// Repeats of the frame on its way.
     pub repeats: u32,
+    /// How often the load began again.
+    pub restarts: u32,
     /// Frames sent.
     pub sent: u64,
     /// Frames that have come.
@@ -68,6 +86,7 @@ impl Session {
         verdict: u8,
         position: u64,
         repeats: u32,
+        restarts: u32,
         sent: u64,
         counts: Counts,
     ) -> Result<Self, Refusal> {
@@ -77,10 +96,11 @@ impl Session {
                 verdict: Verdict::from_number(verdict)?,
                 position,
                 repeats,
+                restarts,
                 sent,
                 counts,
             })),
-            1 if (verdict, position, repeats, sent) == (0, 0, 0, 0)
+            1 if (verdict, position, repeats, restarts, sent) == (0, 0, 0, 0, 0)
                 && counts == Counts::while_waiting(ignored) =>
             {
                 Ok(Session::Waiting { ignored })
@@ -117,7 +137,7 @@ pub fn frame(
             }
         },
         Session::Begun(progress) if progress.verdict == Verdict::Running => {
-            progress.frame(frame, &frames, reply)
+            progress.frame(frame, settings.restart.is_some(), &frames, reply)
         }
         Session::Begun(_) => None,
     })
@@ -139,26 +159,35 @@ pub fn timer(
     })
 }
 
-/// The order is: settings and record, reply buffer, image, what of the record
-/// needs n, then the string.
+/// The order is: settings and record, reply buffer, image, how many frames may
+/// begin again, what of the record needs n, then the string.
 fn check<'l, 'r>(
     settings: Settings<'l>,
     session: Session,
     file: &'l [u8],
     reply: &'r mut [u8],
 ) -> Result<(Frames<'l>, Reply<'r>), Refusal> {
-    let (repeats, counts) = match session {
-        Session::Waiting { ignored } => (0, Counts::while_waiting(ignored)),
-        Session::Begun(progress) => (progress.repeats, progress.counts),
+    let (repeats, restarts, counts) = match session {
+        Session::Waiting { ignored } => (0, 0, Counts::while_waiting(ignored)),
+        Session::Begun(Progress {
+            repeats,
+            restarts,
+            counts,
+            ..
+        }) => (repeats, restarts, counts),
     };
     check_most(settings.segment_size, SEGMENT_MOST)?;
     check_repeats(settings.repeats, repeats)?;
     good_record(counts.have_room())?;
+    good_record(restarts <= settings.restarts_most())?;
     let reply = Reply::new(reply)?;
     let frames = Frames {
         image: image::check(file, settings.segment_size)?,
         parameters: settings.parameters,
     };
+    if settings.restart.is_some_and(|most| frames.count() > most) {
+        return Err(TOO_MANY);
+    }
     if let Session::Begun(progress) = session {
         good_record(progress.is_good(settings.repeats, frames.count()))?;
     }
@@ -179,6 +208,12 @@ fn check_string(version: Version, string: &[u8]) -> Result<(), Refusal> {
     Ok(())
 }
 
+impl Settings<'_> {
+    fn restarts_most(&self) -> u32 {
+        self.restart.map_or(0, |_| RESTARTS_MOST)
+    }
+}
+
 impl Progress {
     /// A machine has asked for a program, after so many other frames.
     fn begun(ignored: u64) -> Progress {
@@ -186,6 +221,7 @@ impl Progress {
             verdict: Verdict::Running,
             position: 0,
             repeats: 0,
+            restarts: 0,
             sent: 0,
             counts: Counts::at_start(ignored),
         }
@@ -194,8 +230,9 @@ impl Progress {
     /// What of a record needs n, the number of frames.
     fn is_good(&self, repeats: u32, frames: u64) -> bool {
         let finished = self.verdict == Verdict::Finished;
+        let loads = u64::from(self.restarts) + 1;
         self.position <= frames
-            && self.sent <= frames * (u64::from(repeats) + 1)
+            && self.sent <= loads * frames * (u64::from(repeats) + 1)
             && finished == (self.position == frames)
     }
 
@@ -204,11 +241,17 @@ impl Progress {
         ((self.position + 1) % 256) as u8
     }
 
-    /// A frame has come while the load runs.
-    fn frame(&mut self, frame: Frame, frames: &Frames, reply: Reply) -> Sent {
+    /// A frame has come while the load runs, which may begin again or not.
+    fn frame(&mut self, frame: Frame, again: bool, frames: &Frames, reply: Reply) -> Sent {
         match frame {
             Frame::RequestLoad { number, error } if number == self.wanted_number() => {
                 self.answered(error, frames, reply)
+            }
+            Frame::RequestProgram {
+                program: OPERATING_SYSTEM,
+                ..
+            } if again && self.position > 0 && self.restarts < RESTARTS_MOST => {
+                self.begin_again(frames, reply)
             }
             _ => {
                 self.counts.ignored += 1;
@@ -231,6 +274,15 @@ impl Progress {
             self.verdict = Verdict::Finished;
             return None;
         }
+        self.send(frames, reply)
+    }
+
+    /// The machine was reset, and has asked for a program again.
+    fn begin_again(&mut self, frames: &Frames, reply: Reply) -> Sent {
+        self.counts.starts += 1;
+        self.restarts += 1;
+        self.position = 0;
+        self.repeats = 0;
         self.send(frames, reply)
     }
 

@@ -33,3 +33,5 @@ pub const BAD_RECORD: Refusal = 10;
 pub const MALFORMED: Refusal = 10;
 /// Version 2.1 on a memory of under 64 bytes.
 pub const SMALL_MEMORY: Refusal = 11;
+/// A load that may begin again has more than 256 frames.
+pub const TOO_MANY: Refusal = 12;

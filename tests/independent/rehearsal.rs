@@ -127,6 +127,7 @@ impl Input {
                 repeats: decimal(repeats, 0, REPEATS_MOST)?,
                 parameters: None,
                 version: VERSION,
+                restart: None,
             },
             file: hexadecimal(image)?,
             events: (events.iter())

@@ -59,6 +59,7 @@ pub struct LoadSettings {
     pub repeats: u32,
     pub with_parameters: u8,
     pub version: u8,
+    pub restart: u8,
 }
 
 /// `mop_counts`
@@ -79,6 +80,7 @@ pub struct Load {
     pub sent: u64,
     pub counts: Counts,
     pub repeats: u32,
+    pub restarts: u32,
     pub waiting: u8,
     pub verdict: u8,
 }

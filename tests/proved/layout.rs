@@ -52,9 +52,9 @@ layout! {
     mop_parameters = Parameters { target_name, target_address, host_name, host_address, host_time }
     mop_machine = Machine { transfer, state, expected, error, parameters }
     mop_machine_step = Step<Machine> { record machine, answer }
-    mop_load_settings = LoadSettings { segment_size, repeats, with_parameters, version }
+    mop_load_settings = LoadSettings { segment_size, repeats, with_parameters, version, restart }
     mop_counts = Counts { starts, advances, ignored, rejections }
-    mop_load = Load { position, sent, counts, repeats, waiting, verdict }
+    mop_load = Load { position, sent, counts, repeats, restarts, waiting, verdict }
     mop_load_step = Step<Load> { record session, answer }
     mop_dump_settings = DumpSettings { length, address, request_bytes, repeats, version }
     mop_dump = Dump { filled, replies, sent, counts, repeats, waiting, verdict }

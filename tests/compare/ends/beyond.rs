@@ -233,6 +233,7 @@ fn loading(file: &[u8]) -> Load<'_> {
             repeats: 1,
             with_parameters: 0,
             version: V3_0,
+            restart: 0,
         },
         file: Hex(file),
         parameters: Hex(&[]),

@@ -66,15 +66,18 @@ fn dump_records() -> [mop_proved::Dump; 6] {
 impl Compare {
     pub fn count_cases(&mut self) {
         for version in VERSIONS {
-            self.load_counts(version, 0);
-            self.load_counts(version, 1);
+            for mark in [0, 1] {
+                self.load_counts(version, mark, 0);
+                self.load_counts(version, mark, 1);
+            }
             self.dump_counts(version);
         }
     }
 
-    fn load_counts(&mut self, version: u8, mark: u8) {
+    fn load_counts(&mut self, version: u8, mark: u8, restart: u8) {
         let file = example();
-        let end = example_with(version, &file, mark, &[1, 1, 65]);
+        let mut end = example_with(version, &file, mark, &[1, 1, 65]);
+        end.settings.restart = restart;
         for record in load_records(mark) {
             self.about_bounds(&end, record, &FOR_LOAD, &[]);
         }

@@ -29,6 +29,8 @@ pub struct Host {
     pub progress: u64,
     /// Frames answered, or replies taken.
     pub taken: u64,
+    /// How often a load began again.
+    pub restarts: u64,
     pub counts: Four,
 }
 
@@ -93,15 +95,17 @@ fn raised_by(event: Event, before: Host, after: Host) -> Option<usize> {
     if !matches!(event, Event::Frame(_)) || before.verdict != 0 {
         return None;
     }
-    Some(if before.waits && !after.waits {
-        STARTS
-    } else if after.progress > before.progress {
-        ADVANCES
-    } else if after.verdict == REJECTED {
-        REJECTIONS
-    } else {
-        IGNORED
-    })
+    Some(
+        if before.waits && !after.waits || after.restarts > before.restarts {
+            STARTS
+        } else if after.progress > before.progress {
+            ADVANCES
+        } else if after.verdict == REJECTED {
+            REJECTIONS
+        } else {
+            IGNORED
+        },
+    )
 }
 
 /// Checks the counts that an accepted call gave.
@@ -134,15 +138,20 @@ pub fn is_handed<E: End>(case: &Case<E>) -> bool {
     read(case.end, bytes).is_ok() && case.room >= ROOM && E::verdict(&case.record) == 0
 }
 
-/// PROTOCOL 6's claim of the counts, after so many frames handed over.
+/// PROTOCOL 6's claim of the counts, after so many frames handed over. What was
+/// answered before a restart counts as well.
 pub fn claim<E: End>(record: &E::Record, handed: u64) -> Result<(), String> {
     let Some(host) = E::host(record) else {
         return Ok(());
     };
-    let starts = u64::from(!host.waits);
+    let starts = if host.waits { 0 } else { host.restarts + 1 };
+    let advances = match host.restarts {
+        0 => host.taken,
+        _ => host.taken.max(host.counts[ADVANCES]),
+    };
     let rejections = u64::from(host.verdict == REJECTED);
     let ignored = host.counts[IGNORED];
-    let wanted = [starts, host.taken, ignored, rejections];
+    let wanted = [starts, advances, ignored, rejections];
     if host.counts != wanted {
         return Err(format!("counts {wanted:?}"));
     }

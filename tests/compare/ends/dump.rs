@@ -105,6 +105,7 @@ impl End for Dump {
             verdict: record.verdict,
             progress: record.filled,
             taken: record.replies,
+            restarts: 0,
             counts: counts::four(record.counts),
         })
     }

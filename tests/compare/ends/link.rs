@@ -1,12 +1,13 @@
 //! The link between the two ends: two queues, first in first out (PROTOCOL 6,
 //! "Link"). The events have the rehearsal's letters: h, k, x hand over,
 //! keep, drop from the host; t, u, y from the machine; m, n host and machine
-//! timer.
+//! timer. A further one, r, is a reset of the machine.
 
 use std::collections::VecDeque;
 
 use super::counts::is_handed;
 use super::machine::Machine;
+use super::machine_windows::touches;
 use super::{Case, End, Event, ROOM, room_refusal};
 use crate::Compare;
 use crate::make::V2_1;
@@ -15,17 +16,20 @@ use crate::tally::Hex;
 
 const LETTERS: [char; 8] = ['h', 'k', 'x', 't', 'u', 'y', 'm', 'n'];
 
-/// How often each letter comes, in the order above, and how often a reply
-/// buffer is too short.
+/// How often each letter comes, in the order above, how often a reply buffer is
+/// too short, and how often a reset comes: one in so many, 0 for none.
 #[derive(Clone, Copy)]
 pub struct Mix {
     pub weights: [u64; 8],
-    /// One in so many; 0 for none.
     pub short: u64,
+    pub resets: u64,
 }
 
 impl Mix {
     pub fn letter(&self, random: &mut Random) -> char {
+        if self.resets > 0 && random.once_in(self.resets) {
+            return 'r';
+        }
         let total: u64 = self.weights.iter().sum();
         let mut place = random.below(total);
         for (letter, &weight) in LETTERS.into_iter().zip(&self.weights) {
@@ -53,6 +57,13 @@ pub enum Side {
     Machine,
 }
 
+/// A reset of the machine: the host's record when it came, and the memory that
+/// it left.
+pub struct Reset<R> {
+    pub record: R,
+    pub memory: Vec<u8>,
+}
+
 /// Both ends, as the events have left them, and the frames on their way.
 pub struct Link<'a, H: End> {
     pub host: &'a H,
@@ -70,6 +81,9 @@ pub struct Link<'a, H: End> {
     pub taken: Vec<(Side, Vec<u8>)>,
     /// The frames handed over to the host that it is to count.
     pub handed: u64,
+    /// The last reset, and how many there were.
+    pub reset: Option<Reset<H::Record>>,
+    pub resets: u32,
 }
 
 impl<'a, H: End> Link<'a, H> {
@@ -93,6 +107,8 @@ impl<'a, H: End> Link<'a, H> {
             events: String::new(),
             taken: Vec::new(),
             handed: 0,
+            reset: None,
+            resets: 0,
         };
         link.call(compare, Side::Machine, Event::Start, ROOM);
         link.call(compare, Side::Host, Event::Start, ROOM);
@@ -106,11 +122,41 @@ impl<'a, H: End> Link<'a, H> {
             'x' => self.from_host.pop_front().is_some(),
             'y' => self.from_machine.pop_front().is_some(),
             'm' => self.call(compare, Side::Host, Event::Timer, room),
+            'r' => self.reset(compare),
             _ => self.call(compare, Side::Machine, Event::Timer, room),
         };
         if done {
             self.events.push(letter);
         }
+    }
+
+    /// The machine begins anew, with any bytes outside its window and nothing
+    /// on its way but its request.
+    fn reset(&mut self, compare: &mut Compare) -> bool {
+        let window = self.machine.settings.window;
+        let other = compare.after_reset(&self.memory);
+        for (address, (byte, other)) in self.memory.iter_mut().zip(other).enumerate() {
+            if !touches(window, address as u64, 1) {
+                *byte = other;
+            }
+        }
+        if let Some(host) = H::host(&self.record) {
+            compare.tally.ends.reset(host);
+        }
+        self.from_host.clear();
+        self.from_machine.clear();
+        self.state = Default::default();
+        self.resets += 1;
+        self.reset = Some(Reset {
+            record: self.record,
+            memory: self.memory.clone(),
+        });
+        self.call(compare, Side::Machine, Event::Start, ROOM)
+    }
+
+    /// Whether nothing is on its way.
+    pub fn is_quiet(&self) -> bool {
+        self.from_host.is_empty() && self.from_machine.is_empty()
     }
 
     /// How many of the host's frames the link has taken.
@@ -185,6 +231,19 @@ impl<'a, H: End> Link<'a, H> {
         match from {
             Side::Host => &mut self.from_host,
             Side::Machine => &mut self.from_machine,
+        }
+    }
+}
+
+impl Compare {
+    /// A memory as a reset may leave it, but for the window: as it was, cleared,
+    /// each bit turned over, or any.
+    fn after_reset(&mut self, memory: &[u8]) -> Vec<u8> {
+        match self.random.below(4) {
+            0 => memory.to_vec(),
+            1 => vec![0; memory.len()],
+            2 => memory.iter().map(|byte| !byte).collect(),
+            _ => self.random.bytes(memory.len()),
         }
     }
 }

@@ -13,6 +13,10 @@ use mop_plain::version::Version;
 use mop_proved::{Counts, LoadSettings, Step, Written};
 
 const FILE_MOST: usize = 16_777_216;
+/// The most frames of a load that may begin again.
+const RESTARTING_MOST: u64 = 256;
+/// The most restarts.
+pub const RESTARTS_MOST: u32 = 65_535;
 
 #[derive(Clone, Copy, Debug)]
 pub struct Load<'a> {
@@ -50,12 +54,14 @@ impl End for Load<'_> {
             repeats: self.settings.repeats,
             parameters: load::given(self.settings.with_parameters, string)?,
             version: Version::from_number(self.settings.version)?,
+            restart: load::restart(self.settings.restart)?,
         };
         let mut session = Session::from_numbers(
             record.waiting,
             record.verdict,
             record.position,
             record.repeats,
+            record.restarts,
             record.sent,
             counts::plain(record.counts),
         )?;
@@ -117,6 +123,7 @@ impl End for Load<'_> {
             verdict: record.verdict,
             progress: record.position,
             taken: record.position,
+            restarts: record.restarts.into(),
             counts: counts::four(record.counts),
         })
     }
@@ -139,10 +146,12 @@ fn numbers(session: Session) -> mop_proved::Load {
             verdict,
             position,
             repeats,
+            restarts,
             sent,
             counts,
         }) => mop_proved::Load {
             counts: counts::from_plain(counts),
+            restarts,
             ..ended(verdict as u8, position, repeats, sent)
         },
     }
@@ -172,6 +181,7 @@ pub const EXAMPLE_SETTINGS: LoadSettings = LoadSettings {
     repeats: 1,
     with_parameters: 0,
     version: V3_0,
+    restart: 0,
 };
 
 /// Not over, c frames answered.
@@ -179,15 +189,29 @@ pub fn running(position: u64, repeats: u32, sent: u64) -> mop_proved::Load {
     ended(0, position, repeats, sent)
 }
 
-/// With this verdict, and no frame counted.
+/// With this verdict, never begun again, and no frame counted.
 pub fn ended(verdict: u8, position: u64, repeats: u32, sent: u64) -> mop_proved::Load {
     mop_proved::Load {
         position,
         sent,
         counts: Counts::default(),
         repeats,
+        restarts: 0,
         waiting: 0,
         verdict,
+    }
+}
+
+/// The most frames sent in a load of so many, begun again so often.
+pub fn sent_most(settings: LoadSettings, restarts: u32, frames: u64) -> u64 {
+    (u64::from(restarts) + 1) * frames * (u64::from(settings.repeats) + 1)
+}
+
+/// 12 for a load that may begin again and has this many frames, or 0.
+pub fn many(settings: LoadSettings, frames: u64) -> u8 {
+    match settings.restart == 1 && frames > RESTARTING_MOST {
+        true => 12,
+        false => 0,
     }
 }
 
@@ -263,6 +287,7 @@ impl Compare {
                 repeats: self.random.pick(&[0, 0, 1, 2, 254, 255, any]),
                 with_parameters: self.random.pick(&[0, 1]),
                 version,
+                restart: self.random.pick(&[0, 1]),
             },
             file: Hex(file),
             parameters: Hex(string),
@@ -281,16 +306,25 @@ impl Compare {
         let round = any / 256 * 256 + self.random.pick(&[0, 254, 255]);
         let near = last.saturating_sub(1);
         let position = self.random.pick(&[0, near, last, any, round.min(last)]);
-        let most = frames * (u64::from(settings.repeats) + 1);
+        let restarts = self.any_restarts(settings.restart);
+        let most = sent_most(settings, restarts, frames);
         let any = self.random.below(most + 1);
         mop_proved::Load {
             position: if verdict == 1 { frames } else { position },
             sent: self.random.pick(&[0, 1, most - 1, most, any]),
             counts: self.any_counts(),
             repeats: self.any_repeats(settings.repeats),
+            restarts,
             waiting: 0,
             verdict,
         }
+    }
+
+    /// Restarts of a load that may begin again, else none.
+    fn any_restarts(&mut self, restart: u8) -> u32 {
+        let any = self.random.u16().into();
+        let allowed = [0, 0, 1, any, RESTARTS_MOST - 1, RESTARTS_MOST];
+        self.random.pick(&allowed) * u32::from(restart)
     }
 
     /// Repeats used, of those allowed.
@@ -334,6 +368,7 @@ impl Compare {
                 early,
                 room_refusal(room),
                 image.err().unwrap_or(0),
+                many(end.settings, frames),
                 late,
                 bad_string,
                 event.refusal(&end),
@@ -361,7 +396,7 @@ impl Compare {
     /// Breaks a rule that is judged before the reply buffer and the image.
     fn early_load_fault(&mut self, settings: &mut LoadSettings, record: &mut mop_proved::Load) {
         let high = self.random.pick(&[1, 255, 1 << 16]);
-        match self.random.below(13) {
+        match self.random.below(17) {
             0 => settings.segment_size = self.random.pick(&[0, 1491, 65_537, u32::MAX]),
             1 => settings.repeats = self.random.pick(&[256, 257, 65_536, u32::MAX]),
             2 => record.repeats = settings.repeats + high,
@@ -374,6 +409,10 @@ impl Compare {
             9 => settings.version = self.random.pick(&NO_VERSIONS),
             10 => record.counts = self.full_counts(),
             11 => (record.waiting, record.counts) = (1, self.begun_counts()),
+            12 => settings.restart = self.number_from(2),
+            13 => record.restarts = RESTARTS_MOST + high,
+            14 => (settings.restart, record.restarts) = (0, self.random.pick(&[1, 65_535])),
+            15 => (record.waiting, record.restarts) = (1, self.random.pick(&[1, 65_535])),
             _ => {
                 *record = waiting(self.any_count());
                 match self.random.once_in(2) {
@@ -388,7 +427,7 @@ impl Compare {
     fn late_load_fault(&mut self, settings: LoadSettings, frames: u64) -> mop_proved::Load {
         let mut record = self.good_load_record(settings, frames);
         record.waiting = 0;
-        let most = frames * (u64::from(settings.repeats) + 1);
+        let most = sent_most(settings, record.restarts, frames);
         let open = self.random.pick(&[0, 2, 3, 4]);
         match self.random.below(4) {
             0 => {
@@ -430,6 +469,7 @@ impl Compare {
             end.settings.with_parameters = mark;
             let image = image::check(&file, end.settings.segment_size);
             let frames = end.frames(image.map_or(0, |image| image.segments()));
+            end.settings.restart = (frames <= RESTARTING_MOST).into();
             let request = [8, 0, 1, 2, 255, 0];
             for record in [waiting(0), running(0, 0, 1), ended(1, frames, 0, 1)] {
                 for frame in [&request[..], &[10, 1, 0], &[3]] {
@@ -451,6 +491,7 @@ impl Compare {
                 repeats: 3,
                 with_parameters: 0,
                 version,
+                restart: 0,
             },
             file: Hex(&file),
             parameters: Hex(&string),

@@ -2,7 +2,7 @@
 //! sort in every call, and the order of refusals.
 
 use super::counts::{ADVANCES, IGNORED, REJECTIONS, STARTS, TOP};
-use super::load::{EXAMPLE_SETTINGS, Load, ended, example, running, waiting};
+use super::load::{EXAMPLE_SETTINGS, Load, ended, example, many, running, waiting};
 use super::strings::{Judged, set_strings};
 use super::{Case, Event, ROOM, first, frames, room_refusal};
 use crate::images::{self, Region};
@@ -12,7 +12,7 @@ use crate::{Compare, Wanted};
 use mop_plain::frame::Frame;
 use mop_proved::LoadSettings;
 
-const REQUEST: [u8; 6] = [8, 0, 1, 2, 255, 0];
+pub const REQUEST: [u8; 6] = [8, 0, 1, 2, 255, 0];
 
 /// Frames, each with its refusal.
 const FRAMES: [(&[u8], u8); 10] = [
@@ -33,7 +33,7 @@ const LONG_NAME: [u8; 16] = [20, 0, 3, 7, 1, 2, 3, 4, 5, 6, 7, 0, 1, 2, 3, 4];
 
 /// Settings and records that break a rule before all else is judged.
 type Early = fn(&mut LoadSettings, &mut mop_proved::Load);
-const EARLY: [(Early, u8); 14] = [
+const EARLY: [(Early, u8); 18] = [
     (|_, _| (), 0),
     (|settings, _| settings.segment_size = 0, 10),
     (|settings, _| settings.repeats = 256, 10),
@@ -41,6 +41,13 @@ const EARLY: [(Early, u8); 14] = [
     (|settings, _| settings.with_parameters = 255, 10),
     (|settings, _| settings.version = 0, 10),
     (|settings, _| settings.version = 22, 10),
+    (|settings, _| settings.restart = 2, 10),
+    (|settings, _| settings.restart = 255, 10),
+    (|_, record| record.restarts = 65_536, 10),
+    (
+        |settings, record| (settings.restart, record.restarts) = (0, 1),
+        10,
+    ),
     (|_, record| record.verdict = 5, 10),
     (|_, record| record.repeats = 2, 10),
     (|_, record| record.waiting = 2, 10),
@@ -64,7 +71,7 @@ pub fn example_with<'a>(version: u8, file: &'a [u8], mark: u8, string: &'a [u8])
 }
 
 /// The same settings, but for segments of one byte.
-fn one_byte<'a>(version: u8, file: &'a [u8], mark: u8, string: &'a [u8]) -> Load<'a> {
+pub fn one_byte<'a>(version: u8, file: &'a [u8], mark: u8, string: &'a [u8]) -> Load<'a> {
     let mut end = example_with(version, file, mark, string);
     end.settings.segment_size = 1;
     end
@@ -318,18 +325,19 @@ impl Compare {
         for (string, refusal) in picked.into_iter().flatten() {
             for (file, image) in &images() {
                 let absent = example_with(version, file, 0, string);
-                self.records_and_events(&absent, [*image, 0]);
+                self.records_and_events(&absent, 2, [*image, 0]);
                 let given = example_with(version, file, 1, string);
-                self.records_and_events(&given, [*image, *refusal]);
+                self.records_and_events(&given, 2, [*image, *refusal]);
             }
         }
     }
 
-    /// Records and settings with a fault or without, at an image and a string
-    /// with these refusals.
-    fn records_and_events(&mut self, end: &Load, [image, string]: [u8; 2]) {
+    /// Records and settings with a fault or without, at an image of so many
+    /// segments and a string with these refusals.
+    pub fn records_and_events(&mut self, end: &Load, segments: u64, [image, string]: [u8; 2]) {
         const KIND: &str = "several faults at once";
-        let frames = end.frames(2);
+        let frames = end.frames(segments);
+        let image = first(&[image, many(end.settings, frames)]);
         let records = [
             (running(0, 0, 1), 0),
             (running(frames, 0, 1), 10),

@@ -20,7 +20,8 @@ const KIND: &str = "in sessions on a noisy line";
 trait Answered: End {
     const NOISY: &'static str;
 
-    /// The frame that begins a session or moves it on, rarely one that rejects.
+    /// The frame that begins a session or moves it on, rarely one that rejects
+    /// or begins again.
     fn awaited(&self, record: &Self::Record, random: &mut Random) -> Vec<u8>;
 }
 
@@ -28,8 +29,10 @@ impl Answered for Load<'_> {
     const NOISY: &'static str = "noisy load";
 
     fn awaited(&self, record: &Self::Record, random: &mut Random) -> Vec<u8> {
+        let again = self.settings.restart == 1 && random.once_in(12);
         match record.waiting {
             1 => vec![8, 0, 1, 2, 255, 0],
+            _ if again => vec![8, 0, 1, 2, 255, 0],
             _ => frames::request_load((record.position + 1) as u8, random.once_in(30).into()),
         }
     }
@@ -56,7 +59,7 @@ impl Compare {
         }
     }
 
-    /// Of so many segments, with a string or without.
+    /// Of so many segments, with a string or without, and perhaps begun again.
     fn noisy_load(&mut self) {
         let segments = self.random.pick(&[1, 2, 5, 12]);
         let file = images::shared(&self.random.bytes(segments), 1, 5);
@@ -68,6 +71,7 @@ impl Compare {
                 repeats: self.random.pick(&[0, 1, 3, 255]),
                 with_parameters: self.random.pick(&[0, 1]),
                 version,
+                restart: self.random.pick(&[0, 1]),
             },
             file: Hex(&file),
             parameters: Hex(&string),

@@ -2,9 +2,9 @@
 
 use super::blocks::{self, Block, MEMORY_LEAST, small_memory};
 use super::counts;
-use super::dump::{Dump, sent_most};
-use super::link::{Link, Mix, Side};
-use super::load::{EXAMPLE_SETTINGS, Load, example};
+use super::dump::{self, Dump};
+use super::link::{Link, Mix, Reset, Side};
+use super::load::{EXAMPLE_SETTINGS, Load, example, sent_most};
 use super::machine::{Machine, Purpose, STARTED};
 use super::machine_windows::touches;
 use super::strings::kept;
@@ -25,18 +25,22 @@ const PROBE_EVERY: u64 = 4;
 pub const CLEAN: Mix = Mix {
     weights: [1, 0, 0, 1, 0, 0, 0, 0],
     short: 0,
+    resets: 0,
 };
 const DOUBLED: Mix = Mix {
     weights: [6, 4, 0, 6, 4, 0, 0, 0],
     short: 40,
+    resets: 0,
 };
 const LOSSY: Mix = Mix {
     weights: [12, 3, 2, 12, 3, 2, 3, 1],
     short: 20,
+    resets: 0,
 };
 const SILENT: Mix = Mix {
     weights: [4, 0, 6, 4, 0, 6, 6, 3],
     short: 20,
+    resets: 0,
 };
 
 /// An image in parts, and the machine that it goes to.
@@ -124,6 +128,17 @@ impl Job {
         .judged()
     }
 
+    /// The same with the restart setting.
+    pub fn restarting(self) -> Job {
+        Job {
+            settings: LoadSettings {
+                restart: 1,
+                ..self.settings
+            },
+            ..self
+        }
+    }
+
     /// Address and length of the block, or of nothing.
     pub fn block_place(&self) -> (u64, u64) {
         blocks::place(self.settings.version, self.memory.len())
@@ -162,10 +177,9 @@ impl Job {
     }
 
     /// PROTOCOL 6's claim of a load, after any list of events.
-    fn claim(&self, link: &Link<Load>) -> Result<(), String> {
+    pub fn claim(&self, link: &Link<Load>) -> Result<(), String> {
         let record = link.record;
-        let frames = self.frames();
-        let most = frames as u64 * (u64::from(self.settings.repeats) + 1);
+        let most = sent_most(self.settings, record.restarts, self.frames() as u64);
         let taken = link.taken_from_host();
         if record.sent != taken || taken > most {
             return Err(format!("{taken} sent, at most {most}"));
@@ -174,6 +188,17 @@ impl Job {
         if self.in_window(&link.memory) != self.in_window(&self.memory) {
             return Err("the window's bytes are the old ones".to_string());
         }
+        match &link.reset {
+            Some(reset) if !has_heard(&record, reset) => unheard(link, reset),
+            _ => self.report(link),
+        }
+    }
+
+    /// What the record says of a machine of whose last reset, if there was one,
+    /// the host has heard.
+    fn report(&self, link: &Link<Load>) -> Result<(), String> {
+        let record = link.record;
+        let frames = self.frames();
         let position = record.position as usize;
         let holds = match (record.waiting, record.verdict) {
             (1, _) => self.first_are_in(0, link),
@@ -188,14 +213,16 @@ impl Job {
         }
     }
 
-    /// Memory is the old one with what the first k frames lay laid over it, all
-    /// of which fit, and the machine has started exactly if they are all; then
-    /// it keeps what the string says, and before nothing.
+    /// Memory is the old one, or the one that the last reset left, with what the
+    /// first k frames lay laid over it, all of which fit, and the machine has
+    /// started exactly if they are all; then it keeps what the string says, and
+    /// before nothing.
     fn first_are_in(&self, count: usize, link: &Link<Load>) -> bool {
         if count > self.fitting {
             return false;
         }
-        let mut memory = self.memory.clone();
+        let old = link.reset.as_ref().map(|reset| &reset.memory);
+        let mut memory = old.unwrap_or(&self.memory).clone();
         for (address, bytes) in self.segments.iter().take(count) {
             memory[*address..][..bytes.len()].copy_from_slice(bytes);
         }
@@ -222,10 +249,26 @@ impl Job {
     }
 }
 
+/// Whether the host has heard of a reset: it was waiting when the reset came, or
+/// had no answer yet and no verdict, or has restarted since.
+pub fn has_heard(now: &mop_proved::Load, reset: &Reset<mop_proved::Load>) -> bool {
+    let then = &reset.record;
+    let at_first = then.position == 0 && then.verdict == 0;
+    then.waiting == 1 || at_first || now.restarts > then.restarts
+}
+
+/// What holds of a machine of whose last reset the host has not heard.
+fn unheard(link: &Link<Load>, reset: &Reset<mop_proved::Load>) -> Result<(), String> {
+    match link.state.state != STARTED && link.memory == reset.memory {
+        true => Ok(()),
+        false => Err("not started, and memory is as the reset left it".to_string()),
+    }
+}
+
 /// PROTOCOL 6's claim of a dump, after any list of events.
 fn dump_claim(link: &Link<Dump>, memory: &[u8], buffer: &[u8]) -> Result<(), String> {
     let (record, settings) = (link.record, link.host.settings);
-    let most = sent_most(settings, record.replies);
+    let most = dump::sent_most(settings, record.replies);
     let taken = link.taken_from_host();
     if record.sent != taken || taken > most {
         return Err(format!("{taken} sent, at most {most}"));
@@ -279,14 +322,14 @@ impl Compare {
     }
 
     /// Draws events from a mix until the host has a verdict and some more, or
-    /// there were so many, and checks the claim. Gives the host's record.
-    fn drive<H: End>(
+    /// there were so many, and checks the claim.
+    pub fn drive<H: End>(
         &mut self,
-        mut link: Link<H>,
+        link: &mut Link<H>,
         mix: Mix,
         events: usize,
         claim: impl Fn(&Link<H>) -> Result<(), String>,
-    ) -> H::Record {
+    ) {
         let mut left = events;
         while left > 0 {
             if H::verdict(&link.record) != 0 {
@@ -300,15 +343,14 @@ impl Compare {
                 link.probe(self);
             }
             if self.random.once_in(CLAIM_EVERY) {
-                self.check_claim(&link, &claim);
+                self.check_claim(link, &claim);
             }
         }
-        self.check_claim(&link, &claim);
+        self.check_claim(link, &claim);
         self.tally.summed("over the link");
-        link.record
     }
 
-    fn check_claim<H: End>(
+    pub fn check_claim<H: End>(
         &mut self,
         link: &Link<H>,
         claim: &impl Fn(&Link<H>) -> Result<(), String>,
@@ -321,10 +363,11 @@ impl Compare {
         }
     }
 
-    fn any_mix(&mut self) -> Mix {
+    pub fn any_mix(&mut self) -> Mix {
         let any = Mix {
             weights: [(); 8].map(|()| 1 + self.random.below(9)),
             short: 10,
+            resets: 0,
         };
         self.random
             .pick(&[CLEAN, DOUBLED, LOSSY, LOSSY, SILENT, any])
@@ -365,7 +408,7 @@ impl Compare {
         }
     }
 
-    fn perhaps_with_parameters(&mut self, job: Job) -> Job {
+    pub fn perhaps_with_parameters(&mut self, job: Job) -> Job {
         match self.random.once_in(2) {
             true => {
                 let version = job.settings.version;
@@ -377,7 +420,7 @@ impl Compare {
 
     /// The job, or one time in three the same with a window about the ends of
     /// a segment or of the block.
-    fn perhaps_with_window(&mut self, job: Job) -> Job {
+    pub fn perhaps_with_window(&mut self, job: Job) -> Job {
         let index = self.random.range(0, job.segments.len() - 1);
         let place = self.random.pick(&[job.place(index), job.block_place()]);
         let window = self.window_about(place, job.memory.len());
@@ -389,6 +432,17 @@ impl Compare {
 
     /// A run of a load; gives the host's record.
     pub fn load_run(&mut self, job: &Job, mix: Mix, events: usize) -> mop_proved::Load {
+        self.on_link(job, |compare, link| {
+            compare.drive(link, mix, events, |link| job.claim(link));
+        })
+    }
+
+    /// A run of a load between fresh ends; gives the host's record.
+    pub fn on_link(
+        &mut self,
+        job: &Job,
+        run: impl FnOnce(&mut Compare, &mut Link<Load>),
+    ) -> mop_proved::Load {
         let string = job.entries.as_ref().map(|entries| entries.concat());
         let host = Load {
             settings: job.settings,
@@ -397,8 +451,9 @@ impl Compare {
         };
         let mut machine = loadable(job.settings.version, self.random.u8(), self.random.u8());
         machine.settings.window = job.window;
-        let link = Link::new(self, &host, &machine, &job.memory, &[]);
-        let record = self.drive(link, mix, events, |link| job.claim(link));
+        let mut link = Link::new(self, &host, &machine, &job.memory, &[]);
+        run(self, &mut link);
+        let record = link.record;
         let (verdict, position) = (record.verdict, record.position);
         let frames = job.frames() as u64;
         let seen = &mut self.tally.ends;
@@ -407,7 +462,7 @@ impl Compare {
     }
 
     /// A few regions, mostly inside memory, in a few segments.
-    fn any_job(&mut self) -> Job {
+    pub fn any_job(&mut self) -> Job {
         let version = self.any_version();
         let scale = self.random.pick(&[1, 1, 1, 60]);
         let body_length = scale * self.random.range(1, 40);
@@ -430,6 +485,7 @@ impl Compare {
             repeats: self.random.pick(&[0, 1, 2, 3, 255]),
             with_parameters: 0,
             version,
+            restart: 0,
         };
         let memory_length = match self.random.below(6) {
             0 => self.random.range(0, end),
@@ -468,6 +524,7 @@ impl Compare {
             repeats: self.random.pick(&[20, 255]),
             with_parameters: 0,
             version,
+            restart: 0,
         };
         Job::new(&body, &[region], settings, memory)
     }
@@ -520,10 +577,10 @@ impl Compare {
             purpose: Purpose::Dump,
         };
         let buffer = self.random.bytes(length);
-        let link = Link::new(self, &host, &machine, &memory, &buffer);
+        let mut link = Link::new(self, &host, &machine, &memory, &buffer);
         let claim = |link: &Link<Dump>| dump_claim(link, &memory, &buffer);
-        let record = self.drive(link, mix, events, claim);
-        let (verdict, replies) = (record.verdict, record.replies);
+        self.drive(&mut link, mix, events, claim);
+        let (verdict, replies) = (link.record.verdict, link.record.replies);
         self.tally.ends.run(Dump::NAME, verdict, replies);
     }
 }

@@ -3,9 +3,10 @@
 use std::collections::BTreeMap;
 
 use super::counts::{Host, TOP};
+use super::load::Load;
 use super::{Case, End, Event, Outcome};
 use crate::make::V2_1;
-use crate::tally::{Tally, commas};
+use crate::tally::{Hex, Tally, commas};
 use mop_proved::LoadSettings;
 
 const WITH_FRAME: &[u8] = &[0, 1, 2, 3, 4, 9, 10];
@@ -13,13 +14,13 @@ const WITHOUT_FRAME: &[u8] = &[0, 9, 10];
 const OF_MACHINE: &[u8] = &[0, 9, 10, 11];
 
 /// Each row, with all that can occur in it.
-const POSSIBLE: [(&str, &str, &[u8]); 42] = [
+const POSSIBLE: [(&str, &str, &[u8]); 47] = [
     ("machine", "start", OF_MACHINE),
     ("machine", "frame", &[0, 1, 2, 3, 4, 9, 10, 11]),
     ("machine", "timer", OF_MACHINE),
     ("load", "start", &[0]),
-    ("load", "frame", &[0, 1, 2, 3, 4, 5, 6, 7, 8, 9, 10]),
-    ("load", "timer", &[0, 2, 4, 5, 6, 7, 8, 9, 10]),
+    ("load", "frame", &[0, 1, 2, 3, 4, 5, 6, 7, 8, 9, 10, 12]),
+    ("load", "timer", &[0, 2, 4, 5, 6, 7, 8, 9, 10, 12]),
     ("dump", "start", &[0]),
     ("dump", "frame", WITH_FRAME),
     ("dump", "timer", WITHOUT_FRAME),
@@ -38,6 +39,7 @@ const POSSIBLE: [(&str, &str, &[u8]); 42] = [
     (WITH_PARAMETERS, RUNS, &[0, 1, 2, 3, 4]),
     (UNDER_2_1, RUNS, &[0, 1, 2, 3, 4]),
     (WITH_BLOCK, RUNS, &[0, 1, 2, 3, 4]),
+    (RESTARTING, RUNS, &[0, 1, 2, 3, 4]),
     ("dump", RUNS, &[0, 1, 3]),
     ("loop", RUNS, &[0, 1, 2, 3]),
     ("load", LONG_RUNS, &[FINISHED]),
@@ -54,14 +56,20 @@ const POSSIBLE: [(&str, &str, &[u8]); 42] = [
     ("dump", AT_TOP, &[0, 1, 2, 3]),
     ("load", BELOW_TOP, &[0, 1, 2, 3]),
     ("dump", BELOW_TOP, &[0, 1, 2, 3]),
-    ("load", TO_TOP, &[1, 2, 3]),
+    ("load", TO_TOP, &[0, 1, 2, 3]),
     ("dump", TO_TOP, &[1, 2]),
+    ("load", ASKED_AGAIN, &[IGNORED, RESTARTED, TOO_OFTEN]),
+    ("reset", CAME, &[0, 1, 2, 3, 4, 5, 6]),
+    ("reset", HEARD, &[0, 1, 2, 3, 4]),
+    ("reset", UNHEARD, &[0, 1, 2, 3, 4]),
 ];
 /// Loads with a parameter string.
 const WITH_PARAMETERS: &str = "load with parameters";
 /// Those of version 2.1, without a string and with one.
 const UNDER_2_1: &str = "2.1 load";
 const WITH_BLOCK: &str = "2.1 load with parameters";
+/// Those with the restart setting, of any version, with a string and without.
+const RESTARTING: &str = "restarting load";
 const STATES: &str = "reached";
 const CODES: &str = "sent code";
 const RUNS: &str = "runs ended";
@@ -69,13 +77,30 @@ const LONG_RUNS: &str = "long runs ended";
 /// Ended at the code 20.
 const LAST_FRAME: &str = "runs at code 20";
 /// Which of the four counts, 0 to 3, a call raised, and which stood at 2^64 - 1
-/// or one below before it, or came there. A session is started once, and no
-/// dump is rejected.
+/// or one below before it, or came there. A dump is started once, and never
+/// rejected.
 const RAISED: &str = "count raised";
 const AT_TOP: &str = "count at the top";
 const BELOW_TOP: &str = "count one below the top";
 const TO_TOP: &str = "count raised to the top";
+/// What a request at a position above 0 came to, in a load that runs.
+const ASKED_AGAIN: &str = "asked again half-way";
+const IGNORED: u8 = 0;
+const RESTARTED: u8 = 1;
+/// Ignored after 65,535 restarts.
+const TOO_OFTEN: u8 = 2;
+/// Where the host stood when a reset came: 0 waiting, 1 at its first frame, 2
+/// half-way, 3 to 6 with verdict 1 to 4.
+const CAME: &str = "came";
+/// The verdict when the claim was checked, if the host had heard of the last
+/// reset and if not.
+const HEARD: &str = "heard of, verdict";
+const UNHEARD: &str = "not heard of, verdict";
 
+/// Code 8.
+const REQUEST: u8 = 8;
+/// The most restarts of a load.
+const RESTARTS_MOST: u64 = 65_535;
 /// Above this many frames, their numbers have come round.
 const LONG: u64 = 257;
 const FINISHED: u8 = 1;
@@ -88,6 +113,10 @@ pub struct Seen {
     pub at_top: u64,
     /// Calls with a count one below, and none at the top.
     pub below_top: u64,
+    /// Calls that began a load again.
+    pub restarts: u64,
+    /// Resets in runs.
+    pub resets: u64,
 }
 
 impl Seen {
@@ -131,6 +160,7 @@ impl Seen {
     /// The same for a load under a version, of so many frames.
     pub fn load_run(&mut self, settings: LoadSettings, verdict: u8, position: u64, frames: u64) {
         let end = match (settings.version, settings.with_parameters) {
+            _ if settings.restart == 1 => RESTARTING,
             (V2_1, 0) => UNDER_2_1,
             (V2_1, _) => WITH_BLOCK,
             (_, 0) => "load",
@@ -140,6 +170,38 @@ impl Seen {
         if end == WITH_BLOCK && verdict == REJECTED && position + 1 == frames {
             self.count(end, LAST_FRAME, verdict);
         }
+    }
+
+    /// A machine was reset with its host in this state.
+    pub fn reset(&mut self, host: Host) {
+        let stage = match (host.waits, host.verdict) {
+            (true, _) => 0,
+            (_, 0) => 1 + u8::from(host.progress > 0),
+            (_, verdict) => 2 + verdict,
+        };
+        self.count("reset", CAME, stage);
+        self.resets += 1;
+    }
+
+    /// A claim was checked after a reset.
+    pub fn after_reset(&mut self, heard: bool, verdict: u8) {
+        let row = if heard { HEARD } else { UNHEARD };
+        self.count("reset", row, verdict);
+    }
+
+    /// A load was handed a request, of any program type.
+    fn asked(&mut self, before: Host, after: Host) {
+        if before.waits || before.verdict != 0 || before.progress == 0 {
+            return;
+        }
+        let restarted = after.restarts > before.restarts;
+        self.restarts += u64::from(restarted);
+        let came_to = match before.restarts {
+            _ if restarted => RESTARTED,
+            RESTARTS_MOST => TOO_OFTEN,
+            _ => IGNORED,
+        };
+        self.count(Load::NAME, ASKED_AGAIN, came_to);
     }
 
     pub fn print(&self) {
@@ -186,6 +248,13 @@ impl Tally {
         }
         if let (Some(before), Some(after)) = (E::host(&case.record), E::host(&outcome.record)) {
             seen.counts(E::NAME, before, after);
+            if E::NAME == Load::NAME && outcome.refusal == 0 && is_request(case.event) {
+                seen.asked(before, after);
+            }
         }
     }
+}
+
+fn is_request(event: Event) -> bool {
+    matches!(event, Event::Frame(Hex([REQUEST, ..])))
 }

@@ -59,6 +59,7 @@ impl Compare {
             repeats: 1,
             with_parameters: 0,
             version,
+            restart: 0,
         };
         let memory = self.random.bytes(memory);
         Job::new(&body, &regions, settings, memory)
