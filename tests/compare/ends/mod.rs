@@ -20,6 +20,7 @@ mod restarts;
 mod runs;
 mod seen;
 mod strings;
+mod too_many;
 mod versions;
 mod window_runs;
 
@@ -218,6 +219,7 @@ impl Compare {
         self.load_runs();
         self.window_runs();
         self.reset_runs();
+        self.one_frame_too_many();
         self.dump_runs();
         self.noisy_sessions();
         self.all_loops();
