@@ -138,10 +138,11 @@ static host_stage stage(const void *job)
 
 static void tell_type(const loading *l)
 {
+    if (l->asked == MOP_PROGRAM_SYSTEM)
+        return;
     char from[ADDRESS_TEXT];
-    if (l->asked != MOP_PROGRAM_SYSTEM)
-        printf("%s asks for a %s (type %d): its request goes to the library as type %d (--accept-type %d).\n",
-            address_text(l->host->machine, from), program_words(l->asked), l->asked, MOP_PROGRAM_SYSTEM, l->asked);
+    printf("%s asks for a %s (type %d): its request goes to the library as type %d (--accept-type %d).\n",
+        address_text(l->host->machine, from), program_words(l->asked), l->asked, MOP_PROGRAM_SYSTEM, l->asked);
 }
 
 static void tell_begun(const loading *l)
