@@ -34,7 +34,7 @@ abbrev reply : List ℕ
 reply = replicate 1500 0
 
 -- the offer; a request for 2 bytes and the reply; a request for the last byte, which is beyond memory's end, again at a timer, and the reply
-abbrev events : List (Event ⊥)
+abbrev pub events : List (Event ⊥)
 events =
     own (handToHost reply) ∷ own (handToMachine reply) ∷ own (handToHost reply) ∷ own (hostTimer reply) ∷ own (handToMachine reply) ∷
     own (handToHost reply) ∷ []

@@ -5,4 +5,5 @@ pub mod ParametersExample
 pub mod DumpExample
 pub mod WindowExample
 pub mod VersionExample
+pub mod RepeatsExample
 pub mod Impostors

@@ -2,7 +2,7 @@
 -- segment is answered, and turns the first four bytes of memory to 9.
 use Prim.Native.Nat.{ℕ}
 use mathlib.Core.Path.{_≡_, refl}
-use mathlib.Core.Bool.{true, false}
+use mathlib.Core.Bool.{Bool, true, false}
 use mathlib.Core.List.{List, [], _∷_, _++_}
 use native.Mathlib.Omega.{arith}
 use lib.ListN.{replicate}
@@ -80,11 +80,24 @@ pub finished : after-events whole
 unfolding half whole image run anew number low find fields layout first trailerOf entryOf entries demand entriesRefusal many segment fits touches byNumber onLoad
 finished = refl
 
--- whether it has heard of the reset, before and after it began again
-pub heard-then : (hasHeard (lastReset loadSettings machineSettings image [] (replicate 8 0) half) (after-events half .host) ≡ false)
-    × (hasHeard (lastReset loadSettings machineSettings image [] (replicate 8 0) whole) (after-events whole .host) ≡ true)
-unfolding half whole image run lastLeft anew number low find fields layout first trailerOf entryOf entries demand entriesRefusal many segment fits touches byNumber onLoad
-heard-then = (refl, refl)
+-- after half, t h h t: the load has begun again, and stands at segment 1 once more; then a second reset; then t
+unfoldable pub twice : Events
+unfolding half
+twice =
+    half ++
+    (own (handToHost reply) ∷ own (handToMachine reply) ∷ own (handToMachine reply) ∷ own (handToHost reply) ∷ further (reset refl []) ∷ [])
+
+unfoldable pub thrice : Events
+unfolding half twice
+thrice = twice ++ (own (handToHost reply) ∷ [])
+
+-- whether it has heard of the last reset: before and after it began again; and so of the second reset, which the restart before it does not answer
+abbrev heard : Events → Bool
+heard es = hasHeard (lastReset loadSettings machineSettings image [] (replicate 8 0) es) (after-events es .host)
+
+pub heard-then : (heard half ≡ false) × (heard whole ≡ true) × (heard twice ≡ false) × (heard thrice ≡ true)
+unfolding half whole twice thrice image run lastLeft anew number low find fields layout first trailerOf entryOf entries demand entriesRefusal many segment fits touches byNumber onLoad
+heard-then = (refl, refl, refl, refl)
 
 -- What the theorem assumes can be had: so the machine is loaded, and every other byte is as the reset left it.
 pub whole-loaded : Loaded loadSettings machineSettings image [] (9 ∷ 9 ∷ 9 ∷ 9 ∷ 0 ∷ 0 ∷ 0 ∷ 0 ∷ []) (after-events whole .machine)

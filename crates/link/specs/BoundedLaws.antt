@@ -4,29 +4,12 @@ use mathlib.Core.Path.{_≡_, refl, sym, subst, _∙_}
 use mathlib.Core.List.{List, [], _∷_, _++_, append-nil}
 use lib.ListN.{take, drop, take-append-drop}
 use Rattle.link.specs.Link.{Frame, Turn, refuses, acts, World, Ends, Event, own, further, handToMachine, keepToMachine, dropToMachine, handToHost, keepToHost, dropToHost, hostTimer, machineTimer, Own, machineTurn, hostTurn, withToMachine, withToHost, Left, left, lastLeft, counts, ownStep, step, run}
-use Rattle.link.specs.LinkLaws.{handedToMachine, keptToMachine, droppedToMachine, handedToHost, keptToHost, droppedToHost, Lost, here, there, Closed, kept as kept-own, kept-any}
+use Rattle.link.specs.LinkLaws.{handedToMachine, keptToMachine, droppedToMachine, handedToHost, keptToHost, droppedToHost, Lost, here, there, run-joined, Closed, kept as kept-own, kept-any}
+use Rattle.link.specs.Taken.{Thinned, none, kept, lost}
+use Rattle.link.specs.TakenLaws.{whole, joined, all-lost}
 use Rattle.link.specs.Bounded.{within, stepWithin, runWithin, Alike}
 
--- A queue, and what is left of it when some of its frames are lost.
-pub data Thinned : List Frame → List Frame → Type 0 where
-  none : Thinned [] []
-  kept : {f : Frame} {q r : List Frame} → Thinned q r → Thinned (f ∷ q) (f ∷ r)
-  lost : {f : Frame} {q r : List Frame} → Thinned q r → Thinned (f ∷ q) r
-
-whole : (q : List Frame) → Thinned q q
-whole [] = none
-whole (f ∷ q) = kept (whole q)
-
-joined : {q r : List Frame} (out : List Frame) → Thinned q r → Thinned (q ++ out) (r ++ out)
-joined out none = whole out
-joined out (kept t) = kept (joined out t)
-joined out (lost t) = lost (joined out t)
-
 -- of the frames that are left, the first n
-all-lost : (q : List Frame) → Thinned q []
-all-lost [] = none
-all-lost (f ∷ q) = lost (all-lost q)
-
 cut : (n : ℕ) {q r : List Frame} → Thinned q r → Thinned q (take n r)
 cut zero {q} t = all-lost q
 cut (suc n) none = none
@@ -35,11 +18,6 @@ cut (suc n) (lost t) = lost (cut (suc n) t)
 
 -- with further events that make the same of two worlds that differ in their queues alone
 module _ {H M X : Type 0} (ends : Ends H M X) (blind : (w v : World H M) (x : X) → Alike w v → ends .further w x ≡ ends .further v x) where
-  run-joined : (w : World H M) (es fs : List (Event X)) → run ends w (es ++ fs) ≡ run ends (run ends w es) fs
-  unfolding run
-  run-joined w [] fs = refl
-  run-joined w (e ∷ es) fs = run-joined (step ends w e) es fs
-
   -- The link beside the bounded line: the ends are the same, and the line's queues are the link's but for the frames that it lost.
   record Beside (w v : World H M) : Type 0 where
     alike : Alike w v
@@ -59,7 +37,7 @@ module _ {H M X : Type 0} (ends : Ends H M X) (blind : (w v : World H M) (x : X)
 
   -- by some events, and then by others
   then : (w : World H M) (es : List (Event X)) {u v : World H M} → run ends w es ≡ u → Comes u v → Comes w v
-  then w es {u} {v} e c = (es ++ c .0, subst (λ (x : World H M). Beside x v) (sym (run-joined w es (c .0) ∙ (rw e))) (c .1))
+  then w es {u} {v} e c = (es ++ c .0, subst (λ (x : World H M). Beside x v) (sym (run-joined ends w es (c .0) ∙ (rw e))) (c .1))
 
   -- ---- one event
   -- a turn of an end, with the queue that it leaves of the frames to it

@@ -1,7 +1,7 @@
 -- What a call comes to on the link: it is refused, or the end acts, and the frame that it sends joins its queue.
 use Prim.Native.Nat.{ℕ}
 use mathlib.Core.Path.{_≡_, refl, sym, subst, _∙_}
-use mathlib.Core.Bool.{cond as pick}
+use mathlib.Core.Bool.{Bool, true, false, cond as pick}
 use mathlib.Core.List.{List, [], _∷_}
 use mathlib.Core.Logic.{_⊎_, inl, inr}
 use lib.ListN.{length, drop}
@@ -15,7 +15,7 @@ use Rattle.message.specs.Read.{fields}
 use Rattle.message.specs.Message.{Message}
 use Rattle.message.specs.Write.{layout, sent}
 use Rattle.message.specs.Laws.{begins}
-use Rattle.step.specs.Step.{Sending, nothing, sends, Act, Outcome, first, call, frameCall, told}
+use Rattle.step.specs.Step.{Sending, nothing, sends, Act, Outcome, first, gives, refuses as no-act, call, frameCall, told}
 use Rattle.step.specs.Laws.{none}
 use Rattle.link.specs.Link.{Frame, Turn, refuses, acts, turn, turned, queued, hearing}
 
@@ -48,6 +48,20 @@ module _ {H B E : Type 0} (end : H → B → E) where
   pub called : (n : ℕ) (h : H) (b : B) (reply : List ℕ) (a : Act H B) → Becomes (turned end (call n h b reply a)) a
   called n h b reply a =
       by-cases (λ (o : Outcome H B). Becomes (turned end o) a) (eqb n 0) (λ _. inr (tells (a .end) (a .lent) reply (a .sending))) (λ e. inl (rw e))
+
+  -- a call to which a refusal applies is refused
+  pub denied : (n : ℕ) (h : H) (b : B) (reply : List ℕ) (a : Act H B) → (n ≡ 0 → ⊥) → turned end (call n h b reply a) ≡ refuses
+  denied n h b reply a e = by-cases (λ (o : Outcome H B). turned end o ≡ refuses) (eqb n 0) (λ z. absurd (e (eqb-true n 0 z))) (λ z. rw z)
+
+  -- two acts under one refusal: what is so of two refusals and of the two acts is so of the two calls
+  pub both-called : (P : Turn E → Turn E → Type 0) (n : ℕ) (h : H) (b : B) (reply : List ℕ) (a c : Act H B) → P refuses refuses
+      → P (acts (end (a .end) (a .lent)) (queued (a .sending))) (acts (end (c .end) (c .lent)) (queued (c .sending)))
+      → P (turned end (call n h b reply a)) (turned end (call n h b reply c))
+  both-called P n h b reply a c r x = go (eqb n 0) refl
+    where
+      go : (d : Bool) → eqb n 0 ≡ d → P (turned end (pick d (gives a reply) (no-act n h b reply))) (turned end (pick d (gives c reply) (no-act n h b reply)))
+      go true e = rw (tells (a .end) (a .lent) reply (a .sending), tells (c .end) (c .lent) reply (c .sending)) x
+      go false e = rw e r
 
   -- a call to which no refusal applies is that act, and is not refused
   pub told-as : (n : ℕ) (h : H) (b : B) (reply : List ℕ) (a : Act H B) → n ≡ 0

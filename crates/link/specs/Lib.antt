@@ -15,7 +15,10 @@ pub mod ResetLaws
 pub mod Unrefused
 pub mod ByteLaws
 pub mod WindowLaws
+pub mod Taken
+pub mod TakenLaws
 pub mod Bounded
 pub mod BoundedLaws
+pub mod AgreeLaws
 pub mod FewLaws
 pub mod Theorem

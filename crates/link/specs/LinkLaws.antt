@@ -1,7 +1,7 @@
 -- An invariant that withstands the link's own events is kept by every run.
 use Prim.Native.Nat.{ℕ}
 use mathlib.Core.Path.{_≡_, refl}
-use mathlib.Core.List.{List, [], _∷_, map}
+use mathlib.Core.List.{List, [], _∷_, _++_, map}
 use Rattle.link.specs.Link.{Frame, Turn, refuses, acts, World, Ends, Own, Event, own, further, handToMachine, keepToMachine, dropToMachine, handToHost, keepToHost, dropToHost, hostTimer, machineTimer, machineTurn, hostTurn, withToMachine, withToHost, Left, left, lastLeft, onFirst, counts, ownStep, step, run}
 
 -- A queue, and what is left of it when one frame is lost, from anywhere in it.
@@ -42,6 +42,12 @@ module _ {H M X : Type 0} (ends : Ends H M X) where
   droppedToHost w q = onFirst w q (λ f rest. withToHost w rest)
 
 module _ {H M X : Type 0} (ends : Ends H M X) where
+  -- two lists of events, one after the other
+  pub run-joined : (w : World H M) (es fs : List (Event X)) → run ends w (es ++ fs) ≡ run ends (run ends w es) fs
+  unfolding run
+  run-joined w [] fs = refl
+  run-joined w (e ∷ es) fs = run-joined (step ends w e) es fs
+
   -- What an invariant must withstand of the link's own events: a frame handed over and kept, a frame lost, a timer, at either end.
   pub record Closed (Holds : World H M → Type 0) : Type 0 where
     pub keptM : (w : World H M) (f : Frame) (q : List Frame) (b : List ℕ) → w .toMachine ≡ f ∷ q → Holds w

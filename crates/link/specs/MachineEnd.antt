@@ -15,7 +15,14 @@ pub record End : Type 0 where
 abbrev pub machineEnd : Machine → List ℕ → End
 machineEnd m memory = record { machine = m; memory = memory }
 
--- the calls of the machine, as the code promises them, beside any host and any further events
+-- the calls of the machine, as the code promises them
+abbrev pub frameTurn : Settings → End → Frame → List ℕ → Turn End
+frameTurn ms e f b = turned machineEnd (machineFrame ms (e .machine) f (e .memory) b)
+
+abbrev pub timerTurn : Settings → End → List ℕ → Turn End
+timerTurn ms e b = turned machineEnd (machineTimer ms (e .machine) (e .memory) b)
+
+-- them beside any host and any further events
 abbrev pub endsWith : {H X : Type 0} → Settings → (H → Frame → Bool) → (H → Frame → List ℕ → Turn H) → (H → List ℕ → Turn H) → (World H End → X → World H End)
     → Ends H End X
 endsWith ms hears frame timer more =
@@ -23,8 +30,8 @@ endsWith ms hears frame timer more =
       hears = hears;
       hostFrame = frame;
       hostTimer = timer;
-      machineFrame = λ e f b. turned machineEnd (machineFrame ms (e .machine) f (e .memory) b);
-      machineTimer = λ e b. turned machineEnd (machineTimer ms (e .machine) (e .memory) b);
+      machineFrame = frameTurn ms;
+      machineTimer = timerTurn ms;
       further = more;
     }
 

@@ -2,6 +2,8 @@ pub mod Model
 pub mod FilledLaws
 pub mod HostLaws
 pub mod AloneLaws
+pub mod RepeatsLaws
 pub mod InvariantLaws
 pub mod DumpedLaws
 pub mod Theorem
+pub mod Repeats

@@ -2,7 +2,7 @@
 use Prim.Native.Nat.{ℕ, _+_, _*_, _≤_, _<_}
 use mathlib.Core.Path.{_≡_}
 use mathlib.Core.Bool.{true}
-use mathlib.Core.List.{List, _++_}
+use mathlib.Core.List.{List, _++_, map}
 use mathlib.Core.Option.{some}
 use lib.ListN.{length, drop, getElem?}
 use Rattle.memory.specs.Memory.{bytesFrom}
@@ -14,9 +14,10 @@ use Rattle.dump_record.specs.declared.Settings.{Settings as DumpSettings}
 use Rattle.dump_record.specs.Record.{fresh}
 use Rattle.dump_checks.specs.Checks as dumpChecks
 use Rattle.dump.specs.Dump as dump
-use Rattle.link.specs.Link.{turned, Ends, World, hearing, Event, run}
+use Rattle.link.specs.Link.{Frame, Turn, turned, Ends, World, hearing, Event, step, run}
+use Rattle.link.specs.Taken.{Taken, fromMachine, allTaken}
 use Rattle.link.specs.Counted.{Counted}
-use Rattle.link.specs.MachineEnd.{End, endsWith, freshWith}
+use Rattle.link.specs.MachineEnd.{End, frameTurn, timerTurn, freshWith}
 
 -- The host end: its record and its dump buffer.
 pub record Host : Type 0 where
@@ -26,11 +27,21 @@ pub record Host : Type 0 where
 abbrev pub hostEnd : Session → List ℕ → Host
 hostEnd h buffer = record { session = h; buffer = buffer }
 
--- the calls of both ends, as the code promises them; there are no further events
+-- the calls of the host, as the code promises them, beside any machine and any further events
+abbrev pub hostBeside : {M X : Type 0} → DumpSettings → (M → Frame → List ℕ → Turn M) → (M → List ℕ → Turn M) → (World Host M → X → World Host M) → Ends Host M X
+hostBeside s frame timer more =
+    record {
+      hears = λ h f. hearing (s .version) (h .session .verdict) f;
+      hostFrame = λ h f b. turned hostEnd (dump.dumpFrame s (h .session) f (h .buffer) b);
+      hostTimer = λ h b. turned hostEnd (dump.dumpTimer s (h .session) (h .buffer) b);
+      machineFrame = frame;
+      machineTimer = timer;
+      further = more;
+    }
+
+-- the calls of both ends; there are no further events
 abbrev pub dumpEnds : DumpSettings → MachineSettings → Ends Host End ⊥
-dumpEnds s ms =
-    endsWith ms (λ h f. hearing (s .version) (h .session .verdict) f) (λ h f b. turned hostEnd (dump.dumpFrame s (h .session) f (h .buffer) b))
-    (λ h b. turned hostEnd (dump.dumpTimer s (h .session) (h .buffer) b)) (λ w x. absurd x)
+dumpEnds s ms = hostBeside s (frameTurn ms) (timerTurn ms) (λ w x. absurd x)
 
 -- fresh ends: a waiting host, all numbers 0, and an Offering machine whose first frame, the one that a timer gives, is the only one queued
 abbrev pub freshWorld : MachineSettings → List ℕ → List ℕ → World Host End
@@ -39,6 +50,21 @@ freshWorld ms memory buffer = freshWith ms (hostEnd fresh buffer) offering memor
 -- the world after a list of events, from fresh ends with this memory and this dump buffer; `Event ⊥`: the link's own events and no others
 abbrev pub after : DumpSettings → MachineSettings → List ℕ → List ℕ → List (Event ⊥) → World Host End
 after s ms memory buffer es = run (dumpEnds s ms) (freshWorld ms memory buffer) es
+
+-- and every frame that the link took, in order, the fresh machine's first
+abbrev pub allFrames : DumpSettings → MachineSettings → List ℕ → List ℕ → List (Event ⊥) → List Taken
+allFrames s ms memory buffer es =
+    map fromMachine (freshWorld ms memory buffer .toHost)
+    ++ allTaken (dumpEnds s ms) (λ w x. absurd x) (step (dumpEnds s ms)) (freshWorld ms memory buffer) es
+
+-- ---- the same dump with another limit of repeats
+abbrev pub withRepeats : ℕ → DumpSettings → DumpSettings
+withRepeats R s =
+    record { length = s .length; address = s .address; «request_bytes» = s .«request_bytes»; repeats = R; version = s .version }
+
+-- a dump that was given up: the host stopped because the frame on its way was repeated R times
+abbrev pub GaveUp : Host → Type 0
+GaveUp h = h .session .verdict ≡ 3
 
 -- Byte k of a buffer is memory's at address a + k: the byte that stands there, or 0 if that is beyond memory's end.
 -- `getElem? xs k` is byte k of xs, counted from 0, and none beyond the end of xs.

@@ -8,6 +8,7 @@
 --     never-refused      nor is a call of either end with a reply buffer of 1,500 bytes refused
 --     bounded-dump, bounded-never-refused    the same on a line with bounded queues
 --     started-dump       the fresh world is what the start calls leave
+--     raised, raised-dump    (Repeats.antt) what a larger R changes, and what it cannot
 use Prim.Native.Nat.{ℕ, _+_, _*_, _≤_, _<_}
 use mathlib.Core.Path.{_≡_, refl, _∙_}
 use mathlib.Core.Bool.{true}

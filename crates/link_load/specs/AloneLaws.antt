@@ -25,9 +25,9 @@ pub record Numbers (N R E w c k v t e : ℕ) : Type 0 where
   pub repeats : k ≤ R
   pub restarts : e ≤ E
   pub waiting : w ≡ 1 → (c ≡ 0) × (k ≡ 0) × (v ≡ 0) × (t ≡ 0) × (e ≡ 0)
-  pub finished : v ≡ 1 → (c ≡ N) × (k ≡ 0) × (N ≤ t) × (t ≤ (e + 1) * (N * (R + 1)))
+  pub finished : v ≡ 1 → (c ≡ N) × (k ≡ 0) × (2 * e + N ≤ t) × (t ≤ (e + 1) * (N * (R + 1)))
   pub otherwise : (v ≡ 1 → ⊥) → (c < N) × (t ≤ e * (N * (R + 1)) + (c * (R + 1) + 1 + k))
-  pub least : (v ≡ 1 → ⊥) → w ≡ 0 → c + 1 + k ≤ t
+  pub least : (v ≡ 1 → ⊥) → w ≡ 0 → 2 * e + c + 1 + k ≤ t
   pub given-up : v ≡ 3 → (c + 1 < N) × (k ≡ R)
   pub unconfirmed : v ≡ 4 → (c + 1 ≡ N) × (k ≡ R)
 
@@ -60,7 +60,7 @@ module _ (N R E : ℕ) (some : 1 ≤ N) (F : ℕ → Frame) where
 
   -- what holds of a record whose frame is on its way; and what one position more counts
   on-way : (h : Session) → Good N R E h → Sending h
-      → (h .position < N) × (h .repeats ≤ R) × (h .position + 1 + h .repeats ≤ h .sent)
+      → (h .position < N) × (h .repeats ≤ R) × (2 * h .restarts + h .position + 1 + h .repeats ≤ h .sent)
       × (h .sent ≤ h .restarts * (N * (R + 1)) + (h .position * (R + 1) + 1 + h .repeats)) × (h .restarts ≤ E)
       × ((h .position + 1) * (R + 1) ≡ h .position * (R + 1) + (R + 1))
   on-way h g w =
@@ -73,6 +73,8 @@ module _ (N R E : ℕ) (some : 1 ≤ N) (F : ℕ → Frame) where
   on-heard h f t g (begins x w v n) = let z = g .waiting w in (good x n (omega arith), omega arith)
   on-heard h f t g (restarts x w v r l e n) =
       let most = bound N R E h g in
+      let sends : h .waiting ≡ 0 = omega (arith, w, g .flag) in
+      let z = on-way h g (sends, v) in
       (good x n (omega arith), omega arith)
   on-heard h f t g (advances x w a l n) = let z = on-way h g w in (good x n (omega arith), omega arith)
   on-heard h f t g (finishes x w a _ l n) =

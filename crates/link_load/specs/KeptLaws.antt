@@ -37,7 +37,7 @@ use Rattle.link.specs.Reset.{anew}
 use Rattle.link.specs.ResetLaws.{length-anew, anew-keeps}
 use Rattle.link.specs.WindowLaws as window
 use Rattle.link.specs.WindowLaws.{window-closed}
-use Rattle.link_load.specs.Model.{heardAtOnce, restartedSince, hasHeard, Reset, reset, onReset, loadEnds, freshWorld, after, lastReset}
+use Rattle.link_load.specs.Model.{heardAtOnce, restartedSince, hasHeard, ResetIf, Reset, reset, onReset, loadEnds, freshWorld, after, lastReset}
 use Rattle.link_load.specs.HostLaws.{F, heard, counted, timed}
 use Rattle.link_load.specs.AloneLaws.{Good, Counting, alone-load}
 use Rattle.link_load.specs.FramesLaws.{Frames, receiver, laid, length-laid, machineAt}
@@ -49,14 +49,14 @@ pub no-reset : (s : LoadSettings) → (s .restart ≡ 1 → ⊥) → Reset s →
 no-reset s none (reset setting bytes) = none setting
 
 -- a reset leaves the bytes of the ROM window, and hands no frame to the host
-pub reset-window : {s : LoadSettings} (ms : MachineSettings) (w : World Session End) (x : Reset s) → WindowKept (ms .window) (w .machine .memory) (onReset ms w x .machine .memory)
+pub reset-window : {restart : ℕ} (ms : MachineSettings) (w : World Session End) (x : ResetIf restart) → WindowKept (ms .window) (w .machine .memory) (onReset ms w x .machine .memory)
 reset-window ms w (reset setting bytes) = anew-keeps (ms .window) bytes (w .machine .memory)
 
 -- and makes the same of two worlds that differ in their queues alone
-pub reset-alike : {s : LoadSettings} (ms : MachineSettings) (w v : World Session End) (x : Reset s) → Alike w v → onReset ms w x ≡ onReset ms v x
+pub reset-alike : {restart : ℕ} (ms : MachineSettings) (w v : World Session End) (x : ResetIf restart) → Alike w v → onReset ms w x ≡ onReset ms v x
 reset-alike ms w v (reset setting bytes) a = rw (a .0, a .1, a .2, a .3)
 
-pub reset-unheard : {s : LoadSettings} (ms : MachineSettings) (w : World Session End) (x : Reset s) → onReset ms w x .heard ≤ w .heard + 1
+pub reset-unheard : {restart : ℕ} (ms : MachineSettings) (w : World Session End) (x : ResetIf restart) → onReset ms w x .heard ≤ w .heard + 1
 reset-unheard ms w (reset setting bytes) = omega arith
 
 module _ (s : LoadSettings) (ms : MachineSettings) (file string first : List ℕ) (ok : cutRefusal file (s .«segment_size») ≡ 0) (o : Octets file)

@@ -6,8 +6,10 @@ pub mod FramesLaws
 pub mod SenderLaws
 pub mod ImageLaws
 pub mod MeaningLaws
+pub mod RepeatsLaws
 pub mod KeptLaws
 pub mod ReportLaws
+pub mod Repeats
 pub mod Theorem
 pub mod RegionsLaws
 pub mod LoadedLaws

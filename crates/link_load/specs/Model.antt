@@ -2,7 +2,8 @@
 use Prim.Native.Nat.{ℕ, zero, suc, _≤_, _<_, min}
 use mathlib.Core.Path.{_≡_}
 use mathlib.Core.Bool.{Bool, true, false, _&&_, _||_, cond as pick}
-use mathlib.Core.List.{List}
+use mathlib.Core.List.{List, _++_, map}
+use mathlib.Core.Logic.{_⊎_}
 use lib.ListN.{length}
 use lib.Dec.{eqb, ltb}
 use Rattle.memory.specs.Memory.{fits, laid}
@@ -18,8 +19,9 @@ use Rattle.load_record.specs.declared.Settings.{Settings as LoadSettings}
 use Rattle.load_record.specs.Record.{fresh}
 use Rattle.load_checks.specs.Checks.{given, frames}
 use Rattle.load.specs.Load.{loadFrame, loadTimer}
-use Rattle.link.specs.Link.{turned, Ends, World, hearing, Event, Left, left, lastLeft, step, run}
-use Rattle.link.specs.MachineEnd.{End, endsWith, freshWith}
+use Rattle.link.specs.Link.{Frame, Turn, turned, Ends, World, hearing, Event, Left, left, lastLeft, step, run}
+use Rattle.link.specs.Taken.{Taken, fromMachine, allTaken}
+use Rattle.link.specs.MachineEnd.{End, frameTurn, timerTurn, freshWith}
 use Rattle.link.specs.Reset.{resets}
 
 -- the host's end is its record alone
@@ -28,17 +30,36 @@ hostEnd h none = h
 
 -- A reset is a further event of a load with the restart setting, and of no other: the event has that as a fact. It carries the bytes that
 -- memory has afterwards outside the ROM window.
-pub data Reset (s : LoadSettings) : Type 0 where
-  reset : s .restart ≡ 1 → List ℕ → Reset s
+pub data ResetIf (restart : ℕ) : Type 0 where
+  reset : restart ≡ 1 → List ℕ → ResetIf restart
 
-abbrev pub onReset : {s : LoadSettings} → MachineSettings → World Session End → Reset s → World Session End
+-- of a load's settings that one alone says whether it has resets
+abbrev pub Reset : LoadSettings → Type 0
+Reset s = ResetIf (s .restart)
+
+abbrev pub onReset : {restart : ℕ} → MachineSettings → World Session End → ResetIf restart → World Session End
 onReset ms w (reset setting bytes) = resets ms w bytes
 
--- the calls of both ends, as the code promises them, and the reset
+-- what the link takes in a reset: all that is on its way after it
+abbrev pub resetTakes : {restart : ℕ} → MachineSettings → World Session End → ResetIf restart → List Taken
+resetTakes ms w x = map fromMachine (onReset ms w x .toHost)
+
+-- the calls of the host, as the code promises them, beside any machine and any further events
+abbrev pub hostBeside : {M X : Type 0} → LoadSettings → List ℕ → List ℕ → (M → Frame → List ℕ → Turn M) → (M → List ℕ → Turn M) → (World Session M → X → World Session M)
+    → Ends Session M X
+hostBeside s file string frame timer more =
+    record {
+      hears = λ h f. hearing (s .version) (h .verdict) f;
+      hostFrame = λ h f b. turned hostEnd (loadFrame s h file string f b);
+      hostTimer = λ h b. turned hostEnd (loadTimer s h file string b);
+      machineFrame = frame;
+      machineTimer = timer;
+      further = more;
+    }
+
+-- the calls of both ends, and the reset
 abbrev pub loadEnds : (s : LoadSettings) → MachineSettings → List ℕ → List ℕ → Ends Session End (Reset s)
-loadEnds s ms file string =
-    endsWith ms (λ h f. hearing (s .version) (h .verdict) f) (λ h f b. turned hostEnd (loadFrame s h file string f b))
-    (λ h b. turned hostEnd (loadTimer s h file string b)) (onReset ms)
+loadEnds s ms file string = hostBeside s file string (frameTurn ms) (timerTurn ms) (onReset ms)
 
 -- fresh ends: a waiting host, and a Requesting machine whose first frame, the one that a timer gives, is the only one queued
 abbrev pub freshWorld : MachineSettings → List ℕ → World Session End
@@ -52,6 +73,10 @@ module _ (s : LoadSettings) (ms : MachineSettings) (file string memory : List �
 
   abbrev pub lastReset : Left Session End
   lastReset = lastLeft (step (loadEnds s ms file string)) (left (freshWorld ms memory)) (freshWorld ms memory) es
+
+  -- and every frame that the link took, in order, the fresh machine's first
+  abbrev pub allFrames : List Taken
+  allFrames = map fromMachine (freshWorld ms memory .toHost) ++ allTaken (loadEnds s ms file string) (resetTakes ms) (step (loadEnds s ms file string)) (freshWorld ms memory) es
 
 -- A host has heard of the reset that left these ends: it was waiting when the reset came, or stood at c = 0 with verdict 0; or its record says
 -- that it has begun again since. Fresh ends are as if it had: their host waits.
@@ -99,3 +124,12 @@ module _ (s : LoadSettings) (ms : MachineSettings) (file string memory : List �
     pub started : k ≡ frames s file → e .machine ≡ machine.started (leaves s string) (trailer file .transfer)
     pub not-started : (k ≡ frames s file → ⊥) → machine.is 4 (e .machine) ≡ false
     pub keeps-nothing : (k ≡ frames s file → ⊥) → e .machine .parameters ≡ none
+
+-- ---- the same load with another limit of repeats
+abbrev pub withRepeats : ℕ → LoadSettings → LoadSettings
+withRepeats R s =
+    record { «segment_size» = s .«segment_size»; repeats = R; «with_parameters» = s .«with_parameters»; restart = s .restart; version = s .version }
+
+-- a load that was given up, or is unconfirmed: the host stopped because the frame on its way was repeated R times
+abbrev pub GaveUp : Session → Type 0
+GaveUp h = (h .verdict ≡ 3) ⊎ (h .verdict ≡ 4)
