@@ -698,7 +698,12 @@ mop_machine_step mop_machine_timer(mop_machine_settings settings,
  * memory is as the reset left it. All this is so where a reset also empties the
  * line of the frames that were on their way. */
 
-/* A load's settings. */
+/* A load's settings.
+ *
+ * A larger R changes only a load that would otherwise be given up or end
+ * unconfirmed: with the same frames handed over and the same timers, every call
+ * up to then answers the same with both, whatever the machine is. The same holds
+ * of a dump that would be given up. */
 typedef struct mop_load_settings {
     uint32_t segment_size;   /* S, the bytes of a segment, 1 to 1,490 */
     uint32_t repeats;        /* R, the repeats allowed per frame, 0 to 255 */
