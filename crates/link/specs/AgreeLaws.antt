@@ -11,7 +11,7 @@ use Rattle.link.specs.CallLaws.{denied, both-called}
 use Rattle.link.specs.AloneLaws.{Keeps}
 use Rattle.link.specs.Bounded.{within, stepWithin, runWithin}
 use Rattle.link.specs.BoundedLaws.{always-within}
-use Rattle.link.specs.Taken.{Taken, fromHost, returned, onQueue, takes, allTaken}
+use Rattle.link.specs.Taken.{Taken, fromHost, returned, onQueue, takes, allTaken, SameRun, SameWithin}
 
 -- what is so of the end that a call leaves, unless it is refused
 abbrev pub Leaving : {E : Type 0} → (E → Type 0) → Turn E → Type 0
@@ -36,7 +36,7 @@ withHost ends frame timer =
     }
 
 -- calls that come to the same agree, if the first leaves a good record, or is refused
-pub alike : {H : Type 0} (Good Over : H → Type 0) (t t′ : Turn H) → t ≡ t′ → Leaving Good t → Agrees Good Over t t′
+alike : {H : Type 0} (Good Over : H → Type 0) (t t′ : Turn H) → t ≡ t′ → Leaving Good t → Agrees Good Over t t′
 alike Good Over refuses t′ e l = e
 alike Good Over (acts x out) t′ e l = inr (l, e)
 
@@ -74,7 +74,7 @@ module _ {H M X : Type 0} (ends : Ends H M X) (frame : H → Frame → List ℕ 
     other = withHost ends frame timer
 
     -- two worlds with the frames taken: the first host is over, or it is good and both are the same
-    abbrev pub Same : World H M → World H M → List Taken → List Taken → Type 0
+    abbrev Same : World H M → World H M → List Taken → List Taken → Type 0
     Same w v p q = Over (w .host) ⊎ (Good (w .host) × (w ≡ v) × (p ≡ q))
 
     -- ---- a host that is over
@@ -160,13 +160,11 @@ module _ {H M X : Type 0} (ends : Ends H M X) (frame : H → Frame → List ℕ 
         (s .1) (run-within-same n (stepWithin n ends w e) es (s .0)))) (one-event w e g)
 
     -- ---- from a good record on, unless the first host is over
-    pub same : (w : World H M) → Good (w .host) → (es : List (Event X)) → (Over (run ends w es .host) → ⊥)
-        → (run ends w es ≡ run other w es) × (allTaken ends more (step ends) w es ≡ allTaken other more (step other) w es)
+    pub same : (w : World H M) → Good (w .host) → (es : List (Event X)) → (Over (run ends w es .host) → ⊥) → SameRun ends other more w es
     same w g es up = ⊎-elim (λ o. absurd (up o)) (λ x. (x .1, x .2)) (run-same w es g)
 
     -- and on a line with bounded queues
-    pub same-within : (w : World H M) → Good (w .host) → (n : ℕ) (es : List (Event X)) → (Over (runWithin n ends w es .host) → ⊥)
-        → (runWithin n ends w es ≡ runWithin n other w es) × (allTaken ends more (stepWithin n ends) w es ≡ allTaken other more (stepWithin n other) w es)
+    pub same-within : (w : World H M) → Good (w .host) → (n : ℕ) (es : List (Event X)) → (Over (runWithin n ends w es .host) → ⊥) → SameWithin ends other more w es n
     same-within w g n es up = ⊎-elim (λ o. absurd (up o)) (λ x. (x .1, x .2)) (run-within-same n w es g)
 
     -- a host that is over stays so: what is the same after a list was the same after each of its beginnings

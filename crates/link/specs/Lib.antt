@@ -15,9 +15,9 @@ pub mod ResetLaws
 pub mod Unrefused
 pub mod ByteLaws
 pub mod WindowLaws
+pub mod Bounded
 pub mod Taken
 pub mod TakenLaws
-pub mod Bounded
 pub mod BoundedLaws
 pub mod AgreeLaws
 pub mod FewLaws

@@ -1,8 +1,10 @@
 -- Every frame that the link takes from its ends, in the order in which it takes them: what a list of events does, as seen on the line. It is a
 -- function of the run and no part of the world.
 use Prim.Native.Nat.{ℕ}
+use mathlib.Core.Path.{_≡_}
 use mathlib.Core.List.{List, [], _∷_, _++_, map}
-use Rattle.link.specs.Link.{Frame, Turn, refuses, acts, World, Ends, Own, Event, own, further, handToMachine, keepToMachine, dropToMachine, handToHost, keepToHost, dropToHost, hostTimer, machineTimer}
+use Rattle.link.specs.Link.{Frame, Turn, refuses, acts, World, Ends, Own, Event, own, further, handToMachine, keepToMachine, dropToMachine, handToHost, keepToHost, dropToHost, hostTimer, machineTimer, step, run}
+use Rattle.link.specs.Bounded.{stepWithin, runWithin}
 
 -- A frame that the link took, and the end that sent it.
 pub data Taken : Type 0 where
@@ -61,3 +63,13 @@ module _ {H M X : Type 0} (ends : Ends H M X) (more : World H M → X → List T
   unfoldable pub allTaken : (World H M → Event X → World H M) → World H M → List (Event X) → List Taken
   allTaken go w [] = []
   allTaken go w (e ∷ es) = takes w e ++ allTaken go (go w e) es
+
+-- Two runs of one list come to the same: the same world, and the same frames taken, in the same order.
+module _ {H M X : Type 0} (ends other : Ends H M X) (more : World H M → X → List Taken) (w : World H M) (es : List (Event X)) where
+  abbrev pub SameRun : Type 0
+  SameRun = (run ends w es ≡ run other w es) × (allTaken ends more (step ends) w es ≡ allTaken other more (step other) w es)
+
+  -- on a line whose queues hold at most n frames
+  abbrev pub SameWithin : ℕ → Type 0
+  SameWithin n =
+      (runWithin n ends w es ≡ runWithin n other w es) × (allTaken ends more (stepWithin n ends) w es ≡ allTaken other more (stepWithin n other) w es)

@@ -14,8 +14,8 @@ use Rattle.machine_record.specs.declared.Settings.{Settings as MachineSettings}
 use Rattle.dump_record.specs.declared.Settings.{Settings as DumpSettings}
 use Rattle.dump_record.specs.Record.{fresh}
 use Rattle.link.specs.Link.{Frame, Turn, World, Ends, Event, step, run}
-use Rattle.link.specs.Bounded.{stepWithin, runWithin}
-use Rattle.link.specs.Taken.{Taken, fromMachine, hostFrames, Listed, allTaken}
+use Rattle.link.specs.Bounded.{runWithin}
+use Rattle.link.specs.Taken.{Taken, fromMachine, hostFrames, Listed, allTaken, SameRun, SameWithin}
 use Rattle.link.specs.TakenLaws.{host-joined, machine-all, anew-listed, listed-run, as-many}
 use Rattle.link.specs.AgreeLaws.{Agree, same, same-within, still-over}
 use Rattle.link.specs.MachineEnd.{End, frameTurn, timerTurn}
@@ -40,13 +40,10 @@ module _
   fresh-good : Good (w .host)
   fresh-good some = rw new (omega (arith, some))
 
-  pub raised-any : (es : List (Event X)) → (GaveUp (run (beside R) w es .host) → ⊥)
-      → (run (beside R) w es ≡ run (beside R′) w es) × (allTaken (beside R) more (step (beside R)) w es ≡ allTaken (beside R′) more (step (beside R′)) w es)
+  pub raised-any : (es : List (Event X)) → (GaveUp (run (beside R) w es .host) → ⊥) → SameRun (beside R) (beside R′) more w es
   raised-any = same (beside R) (beside R′ .hostFrame) (beside R′ .hostTimer) Good GaveUp alike more w fresh-good
 
-  pub bounded-raised-any : (n : ℕ) (es : List (Event X)) → (GaveUp (runWithin n (beside R) w es .host) → ⊥)
-      → (runWithin n (beside R) w es ≡ runWithin n (beside R′) w es)
-      × (allTaken (beside R) more (stepWithin n (beside R)) w es ≡ allTaken (beside R′) more (stepWithin n (beside R′)) w es)
+  pub bounded-raised-any : (n : ℕ) (es : List (Event X)) → (GaveUp (runWithin n (beside R) w es .host) → ⊥) → SameWithin (beside R) (beside R′) more w es n
   bounded-raised-any = same-within (beside R) (beside R′ .hostFrame) (beside R′ .hostTimer) Good GaveUp alike more w fresh-good
 
   pub stays-given-up : (es fs : List (Event X)) → GaveUp (run (beside R) w es .host) → GaveUp (run (beside R) w (es ++ fs) .host)
@@ -98,8 +95,6 @@ module _ (s : DumpSettings) (ms : MachineSettings) (memory buffer : List ℕ) wh
     ends x = dumpEnds (withRepeats x s) ms
 
     pub bounded-raised : (n : ℕ) (es : List (Event ⊥)) → (GaveUp (runWithin n (ends R) (freshWorld ms memory buffer) es .host) → ⊥)
-        → (runWithin n (ends R) (freshWorld ms memory buffer) es ≡ runWithin n (ends R′) (freshWorld ms memory buffer) es)
-        × (allTaken (ends R) (λ w x. absurd x) (stepWithin n (ends R)) (freshWorld ms memory buffer) es
-        ≡ allTaken (ends R′) (λ w x. absurd x) (stepWithin n (ends R′)) (freshWorld ms memory buffer) es)
+        → SameWithin (ends R) (ends R′) (λ w x. absurd x) (freshWorld ms memory buffer) es n
     bounded-raised =
         bounded-raised-any s (frameTurn ms) (timerTurn ms) (λ w x. absurd x) (λ w x. absurd x) (λ w x. absurd x) R R′ larger most (freshWorld ms memory buffer) refl

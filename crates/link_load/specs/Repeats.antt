@@ -16,8 +16,8 @@ use Rattle.load_record.specs.declared.Session.{Session}
 use Rattle.load_record.specs.declared.Settings.{Settings as LoadSettings}
 use Rattle.load_record.specs.Record.{fresh}
 use Rattle.link.specs.Link.{Frame, Turn, World, Ends, Event, step, run}
-use Rattle.link.specs.Bounded.{stepWithin, runWithin}
-use Rattle.link.specs.Taken.{Taken, fromMachine, hostFrames, Listed, allTaken}
+use Rattle.link.specs.Bounded.{runWithin}
+use Rattle.link.specs.Taken.{Taken, fromMachine, hostFrames, Listed, allTaken, SameRun, SameWithin}
 use Rattle.link.specs.TakenLaws.{host-joined, machine-all, anew-listed, listed-run, as-many}
 use Rattle.link.specs.AgreeLaws.{Agree, same, same-within, still-over}
 use Rattle.link.specs.MachineEnd.{End, frameTurn, timerTurn}
@@ -42,13 +42,10 @@ module _
   fresh-good : Good (w .host)
   fresh-good some = rw new (omega (arith, some))
 
-  pub raised-any : (es : List (Event X)) → (GaveUp (run (beside R) w es .host) → ⊥)
-      → (run (beside R) w es ≡ run (beside R′) w es) × (allTaken (beside R) more (step (beside R)) w es ≡ allTaken (beside R′) more (step (beside R′)) w es)
+  pub raised-any : (es : List (Event X)) → (GaveUp (run (beside R) w es .host) → ⊥) → SameRun (beside R) (beside R′) more w es
   raised-any = same (beside R) (beside R′ .hostFrame) (beside R′ .hostTimer) Good GaveUp alike more w fresh-good
 
-  pub bounded-raised-any : (n : ℕ) (es : List (Event X)) → (GaveUp (runWithin n (beside R) w es .host) → ⊥)
-      → (runWithin n (beside R) w es ≡ runWithin n (beside R′) w es)
-      × (allTaken (beside R) more (stepWithin n (beside R)) w es ≡ allTaken (beside R′) more (stepWithin n (beside R′)) w es)
+  pub bounded-raised-any : (n : ℕ) (es : List (Event X)) → (GaveUp (runWithin n (beside R) w es .host) → ⊥) → SameWithin (beside R) (beside R′) more w es n
   bounded-raised-any = same-within (beside R) (beside R′ .hostFrame) (beside R′ .hostTimer) Good GaveUp alike more w fresh-good
 
   pub stays-given-up : (es fs : List (Event X)) → GaveUp (run (beside R) w es .host) → GaveUp (run (beside R) w (es ++ fs) .host)
@@ -117,7 +114,6 @@ module _ (s : LoadSettings) (ms : MachineSettings) (file string old : List ℕ) 
     ends x = loadEnds (withRepeats x s) ms file string
 
     pub bounded-raised : (n : ℕ) (es : List (Event (Reset s))) → (GaveUp (runWithin n (ends R) (freshWorld ms old) es .host) → ⊥)
-        → (runWithin n (ends R) (freshWorld ms old) es ≡ runWithin n (ends R′) (freshWorld ms old) es)
-        × (allTaken (ends R) (resetTakes ms) (stepWithin n (ends R)) (freshWorld ms old) es ≡ allTaken (ends R′) (resetTakes ms) (stepWithin n (ends R′)) (freshWorld ms old) es)
+        → SameWithin (ends R) (ends R′) (resetTakes ms) (freshWorld ms old) es n
     bounded-raised =
         bounded-raised-any s file string (frameTurn ms) (timerTurn ms) (onReset ms) (reset-unmoved ms) (resetTakes ms) R R′ larger most (freshWorld ms old) refl
