@@ -18,7 +18,7 @@ use Rattle.image.specs.Image.{many, segment}
 use Rattle.machine_record.specs.Record.{requesting}
 use Rattle.machine_next.specs.Next.{byNumber, onLoad}
 use Rattle.load_record.specs.declared.Session.{Session}
-use Rattle.link.specs.Link.{Frame, Turn, refuses, acts, Ends, World, Event, step, run}
+use Rattle.link.specs.Link.{Frame, Turn, refuses, acts, Ends, World, step, run}
 use Rattle.link.specs.Taken.{Taken, hostFrames, allTaken}
 use Rattle.link.specs.AgreeLaws as agree
 use Rattle.link.specs.MachineEnd.{End}

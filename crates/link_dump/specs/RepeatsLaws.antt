@@ -11,7 +11,6 @@ use native.Mathlib.Decide.{ℕ-discrete}
 use lib.ListN.{length}
 use lib.Dec.{eqb, ltb}
 use borrow.Author.Tests.{le-leb, lt-ltb, ltb-true}
-use Rattle.octets.specs.TestLaws.{by-cases}
 use Rattle.message.specs.Read.{fields, part}
 use Rattle.step.specs.Step.{Sending, Act, acts, first}
 use Rattle.step.specs.Laws.{met, none}
