@@ -71,6 +71,11 @@ fn main() -> ExitCode {
         commas(sum(|tally| tally.ends.resets)),
     );
     println!(
+        "compare: {} pairs of runs with R and a larger one, the same after {} events",
+        commas(sum(|tally| tally.ends.pairs)),
+        commas(sum(|tally| tally.ends.same)),
+    );
+    println!(
         "compare: {} frames, {} images, {} steps of the ends, {} differences",
         commas(sum(|tally| tally.frames)),
         commas(sum(|tally| tally.images)),

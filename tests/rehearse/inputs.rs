@@ -43,7 +43,7 @@ const fn kind(name: &'static str, times: u64, make: fn(&mut Random) -> Input) ->
     Kind { name, times, make }
 }
 
-pub const KINDS: [Kind; 40] = [
+pub const KINDS: [Kind; 41] = [
     kind("clean load", 800, loads::clean),
     kind("clean load cut short", 500, loads::cut_short),
     kind("no events", 200, loads::no_events),
@@ -54,6 +54,7 @@ pub const KINDS: [Kind; 40] = [
     kind("rejected", 800, loads::rejected),
     kind("unconfirmed", 800, loads::unconfirmed),
     kind("given up", 800, loads::given_up),
+    kind("more repeats, the same printed", 600, loads::more_repeats),
     kind("long runs of letters", 1200, loads::bursts),
     kind("queue filled with requests", 500, loads::full_of_requests),
     kind("queue filled with segments", 500, loads::full_of_segments),

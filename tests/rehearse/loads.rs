@@ -2,8 +2,9 @@
 
 use crate::file::Region;
 use crate::inputs::{Input, Wanted};
-use crate::job::Job;
+use crate::job::{End, Job};
 use crate::random::Random;
+use mop_plain::rehearsal::rehearse;
 
 const LETTERS: &[u8; 8] = b"hkxtuymn";
 /// How often each letter comes, in the order above.
@@ -250,6 +251,25 @@ pub fn given_up(random: &mut Random) -> Input {
     job.events = clean_events(random.range(0, job.segments() - 2));
     job.events.extend(silence(random, job.repeats));
     load(job, Some(GIVEN_UP))
+}
+
+/// A load that runs still, is finished or rejected with its limit of repeats:
+/// with a larger one the same is printed.
+pub fn more_repeats(random: &mut Random) -> Input {
+    loop {
+        let mut job = small(random);
+        job.memory = random.pick(&[job.memory, job.memory, job.memory_end() / 2 + 1]);
+        job.repeats = random.range(0, 3);
+        let mix = random.pick(&[DOUBLED, LOSSY, LOSSY, SILENT]);
+        let count = random.range(0, 30 + 12 * job.segments());
+        job.events = letters(random, mix, count);
+        let printed = rehearse(&job.text());
+        job.repeats = random.pick(&[job.repeats + 1, 9, 255]);
+        if End::read(&printed).is_some_and(|end| end.verdict <= REJECTED) {
+            let (text, wanted) = (job.text(), Wanted::Printed(printed));
+            return Input { text, wanted };
+        }
+    }
 }
 
 /// Letters in runs, many as long as a queue or longer.

@@ -116,13 +116,19 @@ impl<'a, H: End> Link<'a, H> {
     }
 
     pub fn event(&mut self, compare: &mut Compare, letter: char, room: usize) {
+        let left = compare.left_by(letter, &self.memory);
+        self.event_leaving(compare, letter, room, &left);
+    }
+
+    /// The same, where a reset leaves these bytes.
+    pub fn event_leaving(&mut self, compare: &mut Compare, letter: char, room: usize, left: &[u8]) {
         let done = match letter {
             'h' | 'k' => self.deliver(compare, Side::Host, letter == 'k', room),
             't' | 'u' => self.deliver(compare, Side::Machine, letter == 'u', room),
             'x' => self.from_host.pop_front().is_some(),
             'y' => self.from_machine.pop_front().is_some(),
             'm' => self.call(compare, Side::Host, Event::Timer, room),
-            'r' => self.reset(compare),
+            'r' => self.reset(compare, left),
             _ => self.call(compare, Side::Machine, Event::Timer, room),
         };
         if done {
@@ -130,14 +136,13 @@ impl<'a, H: End> Link<'a, H> {
         }
     }
 
-    /// The machine begins anew, with any bytes outside its window and nothing
+    /// The machine begins anew, with these bytes outside its window and nothing
     /// on its way but its request.
-    fn reset(&mut self, compare: &mut Compare) -> bool {
+    fn reset(&mut self, compare: &mut Compare, left: &[u8]) -> bool {
         let window = self.machine.settings.window;
-        let other = compare.after_reset(&self.memory);
-        for (address, (byte, other)) in self.memory.iter_mut().zip(other).enumerate() {
+        for (address, (byte, other)) in self.memory.iter_mut().zip(left).enumerate() {
             if !touches(window, address as u64, 1) {
-                *byte = other;
+                *byte = *other;
             }
         }
         if let Some(host) = H::host(&self.record) {
@@ -152,6 +157,22 @@ impl<'a, H: End> Link<'a, H> {
             memory: self.memory.clone(),
         });
         self.call(compare, Side::Machine, Event::Start, ROOM)
+    }
+
+    /// The first part that is not the same in another run, if there is one.
+    pub fn difference(&self, other: &Self) -> Option<&'static str> {
+        let parts = [
+            ("record", self.record == other.record),
+            ("machine", self.state == other.state),
+            ("memory", self.memory == other.memory),
+            ("dump buffer", self.buffer == other.buffer),
+            ("host's queue", self.from_host == other.from_host),
+            ("machine's queue", self.from_machine == other.from_machine),
+            ("frames taken", self.taken == other.taken),
+            ("events that were done", self.events == other.events),
+        ];
+        let part = parts.into_iter().find(|(_, same)| !same);
+        part.map(|(name, _)| name)
     }
 
     /// Whether nothing is on its way.
@@ -237,8 +258,11 @@ impl<'a, H: End> Link<'a, H> {
 
 impl Compare {
     /// A memory as a reset may leave it, but for the window: as it was, cleared,
-    /// each bit turned over, or any.
-    fn after_reset(&mut self, memory: &[u8]) -> Vec<u8> {
+    /// each bit turned over, or any. No other event leaves bytes.
+    pub fn left_by(&mut self, letter: char, memory: &[u8]) -> Vec<u8> {
+        if letter != 'r' {
+            return Vec::new();
+        }
         match self.random.below(4) {
             0 => memory.to_vec(),
             1 => vec![0; memory.len()],

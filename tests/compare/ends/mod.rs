@@ -15,6 +15,7 @@ mod machine;
 mod machine_parameters;
 mod machine_windows;
 mod noise;
+mod repeats;
 mod reset_runs;
 mod restarts;
 mod runs;
@@ -221,6 +222,7 @@ impl Compare {
         self.reset_runs();
         self.one_frame_too_many();
         self.dump_runs();
+        self.larger_limits();
         self.noisy_sessions();
         self.all_loops();
         self.host_versions();

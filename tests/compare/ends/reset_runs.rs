@@ -20,7 +20,7 @@ impl Compare {
     pub fn reset_runs(&mut self) {
         for version in VERSIONS {
             for job in self.short_jobs(version) {
-                self.resets_at_every_stage(&job);
+                self.resets_at_every_stage(&job.restarting());
             }
         }
         self.resets_at_random();
@@ -29,7 +29,7 @@ impl Compare {
     }
 
     /// Loads of one to four frames, that fit or do not, with a window or without.
-    fn short_jobs(&mut self, version: u8) -> Vec<Job> {
+    pub fn short_jobs(&mut self, version: u8) -> Vec<Job> {
         let mut jobs = Vec::new();
         for segments in 1..=3 {
             for memory in [64, 70] {
@@ -58,7 +58,7 @@ impl Compare {
             repeats,
             with_parameters: 0,
             version,
-            restart: 1,
+            restart: 0,
         };
         let body = self.random.bytes(2 * segments as usize);
         let memory = self.random.bytes(memory);
@@ -168,9 +168,7 @@ impl Compare {
     /// Any load on any line, with few resets or many.
     fn resets_at_random(&mut self) {
         for _ in 0..3000 {
-            let job = self.any_job().restarting();
-            let job = self.perhaps_with_window(job);
-            let job = self.perhaps_with_parameters(job);
+            let job = self.any_sort_of_job().restarting();
             let mix = Mix {
                 resets: self.random.pick(&[0, 4, 10, 20, 40]),
                 ..self.any_mix()
@@ -215,7 +213,7 @@ impl Compare {
     /// out as may.
     fn resets_to_the_most(&mut self) {
         let version = self.random.pick(&[V2_1, V3_0]);
-        let job = self.short_job(version, 2, 64, 0);
+        let job = self.short_job(version, 2, 64, 0).restarting();
         self.tally.kind(RUNS, "to the most restarts");
         let record = self.on_link(&job, |compare, link| {
             for _ in 0..=RESTARTS_MOST {

@@ -32,7 +32,7 @@ const DOUBLED: Mix = Mix {
     short: 40,
     resets: 0,
 };
-const LOSSY: Mix = Mix {
+pub const LOSSY: Mix = Mix {
     weights: [12, 3, 2, 12, 3, 2, 3, 1],
     short: 20,
     resets: 0,
@@ -51,7 +51,7 @@ pub struct Job {
     segments: Vec<(usize, Vec<u8>)>,
     transfer: u32,
     settings: LoadSettings,
-    memory: Vec<u8>,
+    pub memory: Vec<u8>,
     /// The machine's ROM window.
     window: Window,
     /// How many frames come before the first that does not fit.
@@ -136,6 +136,20 @@ impl Job {
                 ..self.settings
             },
             ..self
+        }
+    }
+
+    /// The parameter string, empty if there is none.
+    pub fn string(&self) -> Vec<u8> {
+        self.entries.as_deref().unwrap_or_default().concat()
+    }
+
+    /// The host that loads it, with its string.
+    pub fn host<'a>(&'a self, string: &'a [u8]) -> Load<'a> {
+        Load {
+            settings: self.settings,
+            file: Hex(&self.file),
+            parameters: Hex(string),
         }
     }
 
@@ -321,8 +335,7 @@ impl Compare {
         }
     }
 
-    /// Draws events from a mix until the host has a verdict and some more, or
-    /// there were so many, and checks the claim.
+    /// Drives a link with events from a mix, and checks the claim.
     pub fn drive<H: End>(
         &mut self,
         link: &mut Link<H>,
@@ -330,24 +343,38 @@ impl Compare {
         events: usize,
         claim: impl Fn(&Link<H>) -> Result<(), String>,
     ) {
+        self.draw(mix, events, |compare, letter, room| {
+            link.event(compare, letter, room);
+            if compare.random.once_in(PROBE_EVERY) {
+                link.probe(compare);
+            }
+            if compare.random.once_in(CLAIM_EVERY) {
+                compare.check_claim(link, &claim);
+            }
+            H::verdict(&link.record)
+        });
+        self.check_claim(link, &claim);
+        self.tally.summed("over the link");
+    }
+
+    /// Draws events from a mix until the host has a verdict and some more, or
+    /// there were so many. What takes a letter, with the length of the reply
+    /// buffer, gives the verdict.
+    pub fn draw(
+        &mut self,
+        mix: Mix,
+        events: usize,
+        mut take: impl FnMut(&mut Compare, char, usize) -> u8,
+    ) {
         let mut left = events;
         while left > 0 {
-            if H::verdict(&link.record) != 0 {
-                left = left.min(AFTER_VERDICT);
-            }
             left -= 1;
             let letter = mix.letter(&mut self.random);
             let room = mix.room(&mut self.random);
-            link.event(self, letter, room);
-            if self.random.once_in(PROBE_EVERY) {
-                link.probe(self);
-            }
-            if self.random.once_in(CLAIM_EVERY) {
-                self.check_claim(link, &claim);
+            if take(self, letter, room) != 0 {
+                left = left.min(AFTER_VERDICT);
             }
         }
-        self.check_claim(link, &claim);
-        self.tally.summed("over the link");
     }
 
     pub fn check_claim<H: End>(
@@ -375,9 +402,7 @@ impl Compare {
 
     pub fn load_runs(&mut self) {
         for _ in 0..4000 {
-            let job = self.any_job();
-            let job = self.perhaps_with_window(job);
-            let job = self.perhaps_with_parameters(job);
+            let job = self.any_sort_of_job();
             let mix = self.any_mix();
             let events = self.random.range(0, 30 + 12 * job.frames());
             self.load_run(&job, mix, events);
@@ -408,7 +433,14 @@ impl Compare {
         }
     }
 
-    pub fn perhaps_with_parameters(&mut self, job: Job) -> Job {
+    /// A few segments, with and without a window and a parameter string.
+    pub fn any_sort_of_job(&mut self) -> Job {
+        let job = self.any_job();
+        let job = self.perhaps_with_window(job);
+        self.perhaps_with_parameters(job)
+    }
+
+    fn perhaps_with_parameters(&mut self, job: Job) -> Job {
         match self.random.once_in(2) {
             true => {
                 let version = job.settings.version;
@@ -420,7 +452,7 @@ impl Compare {
 
     /// The job, or one time in three the same with a window about the ends of
     /// a segment or of the block.
-    pub fn perhaps_with_window(&mut self, job: Job) -> Job {
+    fn perhaps_with_window(&mut self, job: Job) -> Job {
         let index = self.random.range(0, job.segments.len() - 1);
         let place = self.random.pick(&[job.place(index), job.block_place()]);
         let window = self.window_about(place, job.memory.len());
@@ -443,14 +475,9 @@ impl Compare {
         job: &Job,
         run: impl FnOnce(&mut Compare, &mut Link<Load>),
     ) -> mop_proved::Load {
-        let string = job.entries.as_ref().map(|entries| entries.concat());
-        let host = Load {
-            settings: job.settings,
-            file: Hex(&job.file),
-            parameters: Hex(string.as_deref().unwrap_or_default()),
-        };
-        let mut machine = loadable(job.settings.version, self.random.u8(), self.random.u8());
-        machine.settings.window = job.window;
+        let string = job.string();
+        let host = job.host(&string);
+        let machine = self.machine_of(job);
         let mut link = Link::new(self, &host, &machine, &job.memory, &[]);
         run(self, &mut link);
         let record = link.record;
@@ -461,8 +488,15 @@ impl Compare {
         record
     }
 
+    /// The machine that a job goes to, of any kind.
+    pub fn machine_of(&mut self, job: &Job) -> Machine {
+        let mut machine = loadable(job.settings.version, self.random.u8(), self.random.u8());
+        machine.settings.window = job.window;
+        machine
+    }
+
     /// A few regions, mostly inside memory, in a few segments.
-    pub fn any_job(&mut self) -> Job {
+    fn any_job(&mut self) -> Job {
         let version = self.any_version();
         let scale = self.random.pick(&[1, 1, 1, 60]);
         let body_length = scale * self.random.range(1, 40);
@@ -547,8 +581,19 @@ impl Compare {
         }
     }
 
-    /// A dump of `length` bytes; `bytes` are C and D.
     fn dump_run(&mut self, length: usize, bytes: [u32; 2], mix: Mix, events: usize) {
+        let (host, machine, memory) = self.any_dump(length, bytes);
+        let buffer = self.random.bytes(length);
+        let mut link = Link::new(self, &host, &machine, &memory, &buffer);
+        let claim = |link: &Link<Dump>| dump_claim(link, &memory, &buffer);
+        self.drive(&mut link, mix, events, claim);
+        let (verdict, replies) = (link.record.verdict, link.record.replies);
+        self.tally.ends.run(Dump::NAME, verdict, replies);
+    }
+
+    /// A dump of `length` bytes, and the machine with its memory; `bytes` are C
+    /// and D.
+    pub fn any_dump(&mut self, length: usize, bytes: [u32; 2]) -> (Dump, Machine, Vec<u8>) {
         let memory_length = self.random.pick(&[0, 1, length / 2, length, 2 * length]);
         let version = self.any_version();
         let memory = self.memory_of(version, memory_length);
@@ -576,12 +621,7 @@ impl Compare {
             },
             purpose: Purpose::Dump,
         };
-        let buffer = self.random.bytes(length);
-        let mut link = Link::new(self, &host, &machine, &memory, &buffer);
-        let claim = |link: &Link<Dump>| dump_claim(link, &memory, &buffer);
-        self.drive(&mut link, mix, events, claim);
-        let (verdict, replies) = (link.record.verdict, link.record.replies);
-        self.tally.ends.run(Dump::NAME, verdict, replies);
+        (host, machine, memory)
     }
 }
 

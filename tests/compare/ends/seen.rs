@@ -12,9 +12,14 @@ use mop_proved::LoadSettings;
 const WITH_FRAME: &[u8] = &[0, 1, 2, 3, 4, 9, 10];
 const WITHOUT_FRAME: &[u8] = &[0, 9, 10];
 const OF_MACHINE: &[u8] = &[0, 9, 10, 11];
+const LOAD_LARGER: &[u8] = &[0, 11, 22, 30, 31, 32, 33, 34, 40, 41, 42, 44];
+/// A code 20 of 3.0 is not rejected.
+const PARAMETERS_LARGER: &[u8] = &[0, 11, 22, 30, 31, 32, 33, 34, 40, 41, 44];
+/// A load that begins again may be given up then.
+const RESTARTING_LARGER: &[u8] = &[0, 11, 22, 30, 31, 32, 33, 34, 40, 41, 42, 43, 44];
 
 /// Each row, with all that can occur in it.
-const POSSIBLE: [(&str, &str, &[u8]); 47] = [
+const POSSIBLE: [(&str, &str, &[u8]); 53] = [
     ("machine", "start", OF_MACHINE),
     ("machine", "frame", &[0, 1, 2, 3, 4, 9, 10, 11]),
     ("machine", "timer", OF_MACHINE),
@@ -62,6 +67,12 @@ const POSSIBLE: [(&str, &str, &[u8]); 47] = [
     ("reset", CAME, &[0, 1, 2, 3, 4, 5, 6]),
     ("reset", HEARD, &[0, 1, 2, 3, 4]),
     ("reset", UNHEARD, &[0, 1, 2, 3, 4]),
+    ("load", LARGER, LOAD_LARGER),
+    (WITH_PARAMETERS, LARGER, PARAMETERS_LARGER),
+    (UNDER_2_1, LARGER, LOAD_LARGER),
+    (WITH_BLOCK, LARGER, LOAD_LARGER),
+    (RESTARTING, LARGER, RESTARTING_LARGER),
+    ("dump", LARGER, &[0, 11, 30, 31, 33]),
 ];
 /// Loads with a parameter string.
 const WITH_PARAMETERS: &str = "load with parameters";
@@ -96,6 +107,9 @@ const CAME: &str = "came";
 /// reset and if not.
 const HEARD: &str = "heard of, verdict";
 const UNHEARD: &str = "not heard of, verdict";
+/// The verdicts of a pair of runs: the first digit is that with R, the second
+/// that with a larger one.
+const LARGER: &str = "with a larger R";
 
 /// Code 8.
 const REQUEST: u8 = 8;
@@ -117,6 +131,10 @@ pub struct Seen {
     pub restarts: u64,
     /// Resets in runs.
     pub resets: u64,
+    /// Pairs of runs with R and a larger one, and the events after which both
+    /// were held to be the same.
+    pub pairs: u64,
+    pub same: u64,
 }
 
 impl Seen {
@@ -159,17 +177,17 @@ impl Seen {
 
     /// The same for a load under a version, of so many frames.
     pub fn load_run(&mut self, settings: LoadSettings, verdict: u8, position: u64, frames: u64) {
-        let end = match (settings.version, settings.with_parameters) {
-            _ if settings.restart == 1 => RESTARTING,
-            (V2_1, 0) => UNDER_2_1,
-            (V2_1, _) => WITH_BLOCK,
-            (_, 0) => "load",
-            _ => WITH_PARAMETERS,
-        };
+        let end = load_name(settings);
         self.run(end, verdict, position);
         if end == WITH_BLOCK && verdict == REJECTED && position + 1 == frames {
             self.count(end, LAST_FRAME, verdict);
         }
+    }
+
+    /// A pair of runs has come to its end with these verdicts.
+    pub fn pair(&mut self, end: &'static str, [with_r, with_more]: [u8; 2]) {
+        self.count(end, LARGER, 10 * with_r + with_more);
+        self.pairs += 1;
     }
 
     /// A machine was reset with its host in this state.
@@ -229,6 +247,17 @@ impl Seen {
             }
         }
         gaps
+    }
+}
+
+/// The row of a load's runs.
+pub fn load_name(settings: LoadSettings) -> &'static str {
+    match (settings.version, settings.with_parameters) {
+        _ if settings.restart == 1 => RESTARTING,
+        (V2_1, 0) => UNDER_2_1,
+        (V2_1, _) => WITH_BLOCK,
+        (_, 0) => Load::NAME,
+        _ => WITH_PARAMETERS,
     }
 }
 
