@@ -128,10 +128,11 @@ static const char manual[] = "NAME\n"
                              "  -C N, --count N\n"
                              "        Bytes asked for at a time, 1 to 1493. Default 1024.\n"
                              "  -R N, --repeats N\n"
-                             "        Repeats allowed for each frame, 0 to 255. Default 16. On the same line\n"
-                             "        a larger R changes only a dump that would be given up: one that is\n"
-                             "        finished is the same, frame for frame. It costs waiting: R + 1 times\n"
-                             "        --timer for a machine that no longer answers.\n";
+                             "        Repeats allowed for each frame, 0 to 255. Default 16. Where the line\n"
+                             "        loses and doubles the same frames, a larger R changes only a dump\n"
+                             "        that would be given up: one that is finished is the same, frame for\n"
+                             "        frame. It costs waiting: R + 1 times --timer for a machine that no\n"
+                             "        longer answers.\n";
 
 static void help(void)
 {

@@ -701,9 +701,9 @@ mop_machine_step mop_machine_timer(mop_machine_settings settings,
 /* A load's settings.
  *
  * A larger R changes only a load that would otherwise be given up or end
- * unconfirmed: with the same frames handed over and the same timers, every call
- * up to then answers the same with both, whatever the machine is. The same holds
- * of a dump that would be given up. */
+ * unconfirmed. From a fresh record, with the same image, parameters, frames,
+ * timers and reply buffers, every call before that is refused with both, or
+ * leaves the same record and returns the same frame with both. */
 typedef struct mop_load_settings {
     uint32_t segment_size;   /* S, the bytes of a segment, 1 to 1,490 */
     uint32_t repeats;        /* R, the repeats allowed per frame, 0 to 255 */
@@ -810,7 +810,8 @@ mop_written mop_load_update_timer(mop_load_settings settings, mop_load *session,
 
 /* ---- The host's dump ------------------------------------------------- */
 
-/* A dump's settings. */
+/* A dump's settings. A larger R changes only a dump that would otherwise be
+ * given up, as with a load. */
 typedef struct mop_dump_settings {
     uint64_t length;        /* L, the bytes to dump, at least 1 */
     uint32_t address;       /* A, where they begin; A + L is at most

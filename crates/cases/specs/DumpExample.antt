@@ -17,7 +17,8 @@ use Rattle.version.specs.Version.{v30}
 use Rattle.dump_record.specs.declared.Settings.{Settings as DumpSettings}
 use Rattle.dump_checks.specs.Checks as dumpChecks
 use Rattle.link.specs.Link.{Event, own, handToMachine, handToHost, hostTimer, run}
-use Rattle.link_dump.specs.Model.{after}
+use Rattle.link.specs.Taken.{fromHost, fromMachine, allTaken}
+use Rattle.link_dump.specs.Model.{after, allFrames}
 
 -- 3 bytes from address 1, at most 2 at a time, one repeat; a memory of 3 bytes
 abbrev pub s : DumpSettings
@@ -45,3 +46,16 @@ finishes : after s ms (7 ∷ 8 ∷ 9 ∷ []) (5 ∷ 5 ∷ 5 ∷ []) events .host
 }
 unfolding run find fields layout low number first bytesFrom
 finishes = refl
+
+-- and every frame that the link took
+frames : allFrames s ms (7 ∷ 8 ∷ 9 ∷ []) (5 ∷ 5 ∷ 5 ∷ []) events
+    ≡ fromMachine (0x0C ∷ 0x00 ∷ 0x01 ∷ 0x03 ∷ 0x00 ∷ 0x00 ∷ 0x00 ∷ 0x00 ∷ [])
+    ∷ fromHost (0x04 ∷ 0x01 ∷ 0x00 ∷ 0x00 ∷ 0x00 ∷ 0x02 ∷ 0x00 ∷ [])
+    ∷ fromMachine (0x0E ∷ 0x01 ∷ 0x00 ∷ 0x00 ∷ 0x00 ∷ 0x08 ∷ 0x09 ∷ [])
+    ∷ fromHost (0x04 ∷ 0x03 ∷ 0x00 ∷ 0x00 ∷ 0x00 ∷ 0x01 ∷ 0x00 ∷ [])
+    ∷ fromHost (0x04 ∷ 0x03 ∷ 0x00 ∷ 0x00 ∷ 0x00 ∷ 0x01 ∷ 0x00 ∷ [])
+    ∷ fromMachine (0x0E ∷ 0x03 ∷ 0x00 ∷ 0x00 ∷ 0x00 ∷ 0x00 ∷ [])
+    ∷ fromHost (0x01 ∷ [])
+    ∷ []
+unfolding allTaken find fields layout low number first bytesFrom
+frames = refl

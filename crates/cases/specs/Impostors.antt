@@ -33,9 +33,9 @@ use Rattle.load_record.specs.declared.Settings.{Settings as LoadSettings}
 use Rattle.load_record.specs.declared.Session.{Session}
 use Rattle.load_record.specs.Record.{counting}
 use Rattle.load.specs.Load.{raised}
+use Rattle.link.specs.Link as link
 use Rattle.link.specs.Link.{Frame, Turn, refuses, acts, queued, Ends, World, Event, own, further, handToMachine, keepToMachine, handToHost, withToMachine, withToHost, left, lastLeft, step, run}
 use Rattle.link.specs.Reset.{anew}
-use Rattle.link.specs.AgreeLaws as agree
 use Rattle.link.specs.MachineEnd.{End, machineEnd}
 use Rattle.link_load.specs.Model as load
 use Rattle.link_load.specs.Model.{Reset, reset, loadEnds, laidOver}
@@ -62,7 +62,7 @@ ours = loadEnds loaded.loadSettings loaded.machineSettings loaded.image []
 
 -- our ends, but for what one of them makes of a frame
 abbrev withHost : (Session → Frame → List ℕ → Turn Session) → Ends Session End (Reset loaded.loadSettings)
-withHost frame = agree.withHost ours frame (ours .hostTimer)
+withHost frame = link.withHost ours frame (ours .hostTimer)
 
 abbrev withMachine : (End → Frame → List ℕ → Turn End) → Ends Session End (Reset loaded.loadSettings)
 withMachine frame =

@@ -18,11 +18,11 @@ use Rattle.image.specs.Image.{many, segment}
 use Rattle.machine_record.specs.Record.{requesting}
 use Rattle.machine_next.specs.Next.{byNumber, onLoad}
 use Rattle.load_record.specs.declared.Session.{Session}
+use Rattle.link.specs.Link as link
 use Rattle.link.specs.Link.{Frame, Turn, refuses, acts, Ends, World, step, run}
 use Rattle.link.specs.Taken.{Taken, hostFrames, allTaken}
-use Rattle.link.specs.AgreeLaws as agree
 use Rattle.link.specs.MachineEnd.{End}
-use Rattle.link_load.specs.Model.{Reset, resetTakes, loadEnds, freshWorld, after, allFrames, withRepeats}
+use Rattle.link_load.specs.Model.{Reset, onResetTakes, loadEnds, freshWorld, after, allFrames, withRepeats}
 use Rattle.link_load.specs.Repeats.{raised-load}
 use Rattle.link_dump.specs.Model as dump
 use Rattle.link_dump.specs.Repeats.{raised-dump}
@@ -65,17 +65,20 @@ raised-here = raised-load loadSettings machineSettings image [] (replicate 8 0) 
 abbrev dump-reached : ℕ → World dump.Host End
 dump-reached x = dump.after (dump.withRepeats x dumped.s) dumped.ms (7 ∷ 8 ∷ 9 ∷ []) (5 ∷ 5 ∷ 5 ∷ []) dumped.events
 
+abbrev dump-taken : ℕ → List Taken
+dump-taken x = dump.allFrames (dump.withRepeats x dumped.s) dumped.ms (7 ∷ 8 ∷ 9 ∷ []) (5 ∷ 5 ∷ 5 ∷ []) dumped.events
+
 -- with R = 0 it is given up there, and the last byte of the buffer is the old one; with R = 1 it is finished
 pub dump-gives-up : (dump-reached 0 .host .session .verdict ≡ 3) × (dump-reached 0 .host .buffer ≡ 8 ∷ 9 ∷ 5 ∷ []) × (dump-reached 1 .host .session .verdict ≡ 1)
 unfolding run find fields layout low number first bytesFrom
 dump-gives-up = (refl, refl, refl)
 
-pub dump-all-equal : dump-reached 1 ≡ dump-reached 255
-unfolding run find fields layout low number first bytesFrom
-dump-all-equal = refl
+pub dump-all-equal : (dump-reached 1 ≡ dump-reached 255) × (dump-taken 1 ≡ dump-taken 255)
+unfolding run allTaken find fields layout low number first bytesFrom
+dump-all-equal = (refl, refl)
 
-pub dump-raised-here : dump-reached 1 ≡ dump-reached 255
-dump-raised-here = raised-dump dumped.s dumped.ms (7 ∷ 8 ∷ 9 ∷ []) (5 ∷ 5 ∷ 5 ∷ []) 1 255 (omega arith) (omega arith) dumped.events (dump-gives-up .2) .0
+pub dump-raised-here : (dump-reached 1 ≡ dump-reached 255) × (dump-taken 1 ≡ dump-taken 255)
+dump-raised-here = raised-dump dumped.s dumped.ms (7 ∷ 8 ∷ 9 ∷ []) (5 ∷ 5 ∷ 5 ∷ []) 1 255 (omega arith) (omega arith) dumped.events (dump-gives-up .2)
 
 -- ---- hosts that are ours but for what they do with R: on the same list, finished with R = 1, the claim is false of each for R = 2
 abbrev Hosts : Type 0
@@ -88,13 +91,13 @@ abbrev ends-in : Hosts → ℕ → World Session End
 ends-in hosts R = run (hosts R) (freshWorld machineSettings (replicate 8 0)) events
 
 abbrev takes-in : Hosts → ℕ → List Taken
-takes-in hosts R = allTaken (hosts R) (resetTakes machineSettings) (step (hosts R)) (freshWorld machineSettings (replicate 8 0)) events
+takes-in hosts R = allTaken (hosts R) (onResetTakes machineSettings) (step (hosts R)) (freshWorld machineSettings (replicate 8 0)) events
 
 abbrev Claim : Hosts → Type 0
 Claim hosts = ends-in hosts 1 .host .verdict ≡ 1 → (ends-in hosts 1 ≡ ends-in hosts 2) × (takes-in hosts 1 ≡ takes-in hosts 2)
 
 abbrev withHost : (ℕ → Session → Frame → List ℕ → Turn Session) → (ℕ → Session → List ℕ → Turn Session) → Hosts
-withHost frame timer R = agree.withHost (ours R) (frame R) (timer R)
+withHost frame timer R = link.withHost (ours R) (frame R) (timer R)
 
 -- it is true of ours
 pub ours-raised : Claim ours

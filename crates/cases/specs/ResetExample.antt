@@ -20,10 +20,11 @@ use Rattle.machine_next.specs.Next.{byNumber, onLoad}
 use Rattle.version.specs.Version.{v30}
 use Rattle.load_record.specs.declared.Settings.{Settings as LoadSettings}
 use Rattle.load_record.specs.declared.Session.{Session}
-use Rattle.link.specs.Link.{World, Event, own, further, handToMachine, handToHost, hostTimer, lastLeft, run}
+use Rattle.link.specs.Link.{World, Event, own, further, handToMachine, handToHost, keepToHost, hostTimer, machineTimer, lastLeft, run}
+use Rattle.link.specs.Taken.{fromHost, fromMachine, allTaken}
 use Rattle.link.specs.Reset.{anew}
 use Rattle.link.specs.MachineEnd.{End}
-use Rattle.link_load.specs.Model.{Reset, reset, after, lastReset, hasHeard}
+use Rattle.link_load.specs.Model.{Reset, reset, after, lastReset, allFrames, hasHeard}
 use Rattle.link_load.specs.Report.{Loaded}
 use Rattle.link_load.specs.Audit.{finished-load, late-load}
 use Rattle.cases.specs.LoadExample.{image, machineSettings, accepted, bytes}
@@ -58,6 +59,20 @@ pub not-heard : after-events half
     }
 unfolding half image run anew number low find fields layout first trailerOf entryOf entries demand entriesRefusal many segment fits touches byNumber onLoad
 not-heard = refl
+
+-- every frame that the link took then, after a machine timer, and after the first request is handed over and kept, to which the host begins again
+pub half-frames : allFrames loadSettings machineSettings image [] (replicate 8 0) (half ++ (own (machineTimer reply) ∷ own (keepToHost reply) ∷ []))
+    ≡ fromMachine (0x08 ∷ 0x00 ∷ 0x01 ∷ 0x02 ∷ 0xFF ∷ 0x00 ∷ [])
+    ∷ fromHost (0x02 ∷ 0x00 ∷ 0x02 ∷ 0x00 ∷ 0x00 ∷ 0x00 ∷ 0x0A ∷ 0x0B ∷ [])
+    ∷ fromMachine (0x0A ∷ 0x01 ∷ 0x00 ∷ [])
+    ∷ fromHost (0x00 ∷ 0x01 ∷ 0x04 ∷ 0x00 ∷ 0x00 ∷ 0x00 ∷ 0x0C ∷ 0x02 ∷ 0x00 ∷ 0x00 ∷ 0x00 ∷ [])
+    ∷ fromMachine (0x08 ∷ 0x00 ∷ 0x01 ∷ 0x02 ∷ 0xFF ∷ 0x00 ∷ [])
+    ∷ fromHost (0x00 ∷ 0x01 ∷ 0x04 ∷ 0x00 ∷ 0x00 ∷ 0x00 ∷ 0x0C ∷ 0x02 ∷ 0x00 ∷ 0x00 ∷ 0x00 ∷ [])
+    ∷ fromMachine (0x08 ∷ 0x00 ∷ 0x01 ∷ 0x02 ∷ 0xFF ∷ 0x00 ∷ [])
+    ∷ fromHost (0x02 ∷ 0x00 ∷ 0x02 ∷ 0x00 ∷ 0x00 ∷ 0x00 ∷ 0x0A ∷ 0x0B ∷ [])
+    ∷ []
+unfolding half image allTaken anew number low find fields layout first trailerOf entryOf entries demand entriesRefusal many segment fits touches byNumber onLoad
+half-frames = refl
 
 -- then t: the load begins again; h: the machine passes the repeat by; h t h t
 unfoldable pub whole : Events

@@ -1,11 +1,11 @@
--- Two runs of one list of events, whose ends differ in the calls of the host alone: until the first host is over, the two worlds are the
+-- Two runs of one list of events, whose ends differ in the calls of the host alone: until the first host has ended, the two worlds are the
 -- same, and so are all frames that the link took.
 use Prim.Native.Nat.{ℕ}
 use mathlib.Core.Path.{_≡_, refl, ap, sym, subst, _∙_}
 use mathlib.Core.List.{List, [], _∷_, _++_}
 use mathlib.Core.Logic.{_⊎_, inl, inr, ⊎-elim}
 use Rattle.step.specs.Step.{Act, call}
-use Rattle.link.specs.Link.{Frame, Turn, refuses, acts, turned, World, Ends, Event, own, further, handToMachine, keepToMachine, dropToMachine, handToHost, keepToHost, dropToHost, hostTimer, machineTimer, machineTurn, hostTurn, onFirst, counts, step, run}
+use Rattle.link.specs.Link.{Frame, Turn, refuses, acts, turned, World, Ends, withHost, Event, own, further, handToMachine, keepToMachine, dropToMachine, handToHost, keepToHost, dropToHost, hostTimer, machineTimer, machineTurn, hostTurn, onFirst, counts, step, run}
 use Rattle.link.specs.LinkLaws.{run-joined, Closed, always}
 use Rattle.link.specs.CallLaws.{denied, both-called}
 use Rattle.link.specs.AloneLaws.{Keeps}
@@ -18,54 +18,42 @@ abbrev pub Leaving : {E : Type 0} → (E → Type 0) → Turn E → Type 0
 Leaving P refuses = Unit {0}
 Leaving P (acts e out) = P e
 
--- two calls of a host, in the same record, come to the same and leave it good, or the first leaves it over
+-- two calls of a host, in the same record, come to the same and leave it good, or the first leaves it ended
 abbrev pub Agrees : {H : Type 0} → (H → Type 0) → (H → Type 0) → Turn H → Turn H → Type 0
-Agrees Good Over refuses y = refuses ≡ y
-Agrees Good Over (acts x out) y = Over x ⊎ (Good x × (acts x out ≡ y))
-
--- the same ends but for the calls of the host
-abbrev pub withHost : {H M X : Type 0} → Ends H M X → (H → Frame → List ℕ → Turn H) → (H → List ℕ → Turn H) → Ends H M X
-withHost ends frame timer =
-    record {
-      hears = ends .hears;
-      hostFrame = frame;
-      hostTimer = timer;
-      machineFrame = ends .machineFrame;
-      machineTimer = ends .machineTimer;
-      further = ends .further;
-    }
+Agrees Good Ended refuses y = refuses ≡ y
+Agrees Good Ended (acts x out) y = Ended x ⊎ (Good x × (acts x out ≡ y))
 
 -- calls that come to the same agree, if the first leaves a good record, or is refused
-alike : {H : Type 0} (Good Over : H → Type 0) (t t′ : Turn H) → t ≡ t′ → Leaving Good t → Agrees Good Over t t′
-alike Good Over refuses t′ e l = e
-alike Good Over (acts x out) t′ e l = inr (l, e)
+same-agrees : {H : Type 0} (Good Ended : H → Type 0) (t t′ : Turn H) → t ≡ t′ → Leaving Good t → Agrees Good Ended t t′
+same-agrees Good Ended refuses t′ e l = e
+same-agrees Good Ended (acts x out) t′ e l = inr (l, e)
 
 -- a call that keeps a good record leaves a good one, whatever else that is asked for
 pub leaving : {H : Type 0} (Good : H → Type 0) (sent : H → ℕ) (Fact : Type 0) (h : H) (t : Turn H) → Keeps Good sent h t → Leaving (λ x. Fact → Good x) t
 leaving Good sent Fact h refuses k = tt
 leaving Good sent Fact h (acts x out) k = λ _. k .0
 
--- two acts under the same refusal agree, if they are the same and leave a good record, or the first leaves one that is over
-module _ {H B E : Type 0} (Good Over : E → Type 0) (end : H → B → E) (n n′ : ℕ) (h : H) (b : B) (reply : List ℕ) (act act′ : Act H B) where
-  pub acts-agree : n ≡ n′ → (act ≡ act′) ⊎ Over (end (act .end) (act .lent)) → Leaving Good (turned end (call n h b reply act))
-      → Agrees Good Over (turned end (call n h b reply act)) (turned end (call n′ h b reply act′))
+-- two acts under the same refusal agree, if they are the same and leave a good record, or the first leaves one that has ended
+module _ {H B E : Type 0} (Good Ended : E → Type 0) (end : H → B → E) (n n′ : ℕ) (h : H) (b : B) (reply : List ℕ) (act act′ : Act H B) where
+  pub acts-agree : n ≡ n′ → (act ≡ act′) ⊎ Ended (end (act .end) (act .lent)) → Leaving Good (turned end (call n h b reply act))
+      → Agrees Good Ended (turned end (call n h b reply act)) (turned end (call n′ h b reply act′))
   acts-agree e (inl same) l =
-      alike Good Over _ _ (ap (λ (m : ℕ). turned end (call m h b reply act)) e ∙ ap (λ (x : Act H B). turned end (call n′ h b reply x)) same) l
-  acts-agree e (inr over) l =
-      subst (λ (m : ℕ). Agrees Good Over (turned end (call n h b reply act)) (turned end (call m h b reply act′))) e
-      (both-called end (Agrees Good Over) n h b reply act act′ refl (inl over))
+      same-agrees Good Ended _ _ (ap (λ (m : ℕ). turned end (call m h b reply act)) e ∙ ap (λ (x : Act H B). turned end (call n′ h b reply x)) same) l
+  acts-agree e (inr ended) l =
+      subst (λ (m : ℕ). Agrees Good Ended (turned end (call n h b reply act)) (turned end (call m h b reply act′))) e
+      (both-called end (Agrees Good Ended) n h b reply act act′ refl (inl ended))
 
   -- and so do two that are both refused
-  pub denied-agree : (n ≡ 0 → ⊥) → (n′ ≡ 0 → ⊥) → Agrees Good Over (turned end (call n h b reply act)) (turned end (call n′ h b reply act′))
+  pub denied-agree : (n ≡ 0 → ⊥) → (n′ ≡ 0 → ⊥) → Agrees Good Ended (turned end (call n h b reply act)) (turned end (call n′ h b reply act′))
   denied-agree e e′ = rw (denied end n h b reply act e, denied end n′ h b reply act′ e′) refl
 
-module _ {H M X : Type 0} (ends : Ends H M X) (frame : H → Frame → List ℕ → Turn H) (timer : H → List ℕ → Turn H) (Good Over : H → Type 0) where
-  -- What it takes: in a good record every call agrees; a record that is over stays so; a further event leaves the record as it is.
+module _ {H M X : Type 0} (ends : Ends H M X) (frame : H → Frame → List ℕ → Turn H) (timer : H → List ℕ → Turn H) (Good Ended : H → Type 0) where
+  -- What it takes: in a good record every call agrees; a record that has ended stays so; a further event leaves the record as it is.
   pub record Agree : Type 0 where
-    pub on-frame : (h : H) (f b : List ℕ) → Good h → Agrees Good Over (ends .hostFrame h f b) (frame h f b)
-    pub on-timer : (h : H) (b : List ℕ) → Good h → Agrees Good Over (ends .hostTimer h b) (timer h b)
-    pub over-frame : (h : H) (f b : List ℕ) → Over h → Leaving Over (ends .hostFrame h f b)
-    pub over-timer : (h : H) (b : List ℕ) → Over h → Leaving Over (ends .hostTimer h b)
+    pub on-frame : (h : H) (f b : List ℕ) → Good h → Agrees Good Ended (ends .hostFrame h f b) (frame h f b)
+    pub on-timer : (h : H) (b : List ℕ) → Good h → Agrees Good Ended (ends .hostTimer h b) (timer h b)
+    pub ended-frame : (h : H) (f b : List ℕ) → Ended h → Leaving Ended (ends .hostFrame h f b)
+    pub ended-timer : (h : H) (b : List ℕ) → Ended h → Leaving Ended (ends .hostTimer h b)
     pub unmoved : (w : World H M) (x : X) → ends .further w x .host ≡ w .host
 
   -- `more` is what the link takes in a further event
@@ -73,35 +61,35 @@ module _ {H M X : Type 0} (ends : Ends H M X) (frame : H → Frame → List ℕ 
     abbrev other : Ends H M X
     other = withHost ends frame timer
 
-    -- two worlds with the frames taken: the first host is over, or it is good and both are the same
+    -- two worlds with the frames taken: the first host has ended, or it is good and both are the same
     abbrev Same : World H M → World H M → List Taken → List Taken → Type 0
-    Same w v p q = Over (w .host) ⊎ (Good (w .host) × (w ≡ v) × (p ≡ q))
+    Same w v p q = Ended (w .host) ⊎ (Good (w .host) × (w ≡ v) × (p ≡ q))
 
-    -- ---- a host that is over
-    host-over : (w : World H M) (n : ℕ) (rest : List Frame) (t : Turn H) → Over (w .host) → Leaving Over t → Over (hostTurn w n rest t .host)
-    host-over w n rest refuses o l = o
-    host-over w n rest (acts x out) o l = l
+    -- ---- a host that has ended
+    host-ended : (w : World H M) (n : ℕ) (rest : List Frame) (t : Turn H) → Ended (w .host) → Leaving Ended t → Ended (hostTurn w n rest t .host)
+    host-ended w n rest refuses o l = o
+    host-ended w n rest (acts x out) o l = l
 
-    machine-over : (w : World H M) (rest : List Frame) (t : Turn M) → Over (w .host) → Over (machineTurn w rest t .host)
-    machine-over w rest refuses o = o
-    machine-over w rest (acts m out) o = o
+    machine-ended : (w : World H M) (rest : List Frame) (t : Turn M) → Ended (w .host) → Ended (machineTurn w rest t .host)
+    machine-ended w rest refuses o = o
+    machine-ended w rest (acts m out) o = o
 
-    closed-over : Closed ends (λ w. Over (w .host))
-    closed-over =
+    closed-ended : Closed ends (λ w. Ended (w .host))
+    closed-ended =
         record {
-          keptM = λ w f q b e o. machine-over w (f ∷ q) (ends .machineFrame (w .machine) f b) o;
+          keptM = λ w f q b e o. machine-ended w (f ∷ q) (ends .machineFrame (w .machine) f b) o;
           lostM = λ w q l o. o;
-          keptH = λ w f q b e o. host-over w (counts ends (w .host) f) (f ∷ q) (ends .hostFrame (w .host) f b) o (a .over-frame (w .host) f b o);
+          keptH = λ w f q b e o. host-ended w (counts ends (w .host) f) (f ∷ q) (ends .hostFrame (w .host) f b) o (a .ended-frame (w .host) f b o);
           lostH = λ w q l o. o;
-          timerH = λ w b o. host-over w 0 (w .toHost) (ends .hostTimer (w .host) b) o (a .over-timer (w .host) b o);
-          timerM = λ w b o. machine-over w (w .toMachine) (ends .machineTimer (w .machine) b) o;
+          timerH = λ w b o. host-ended w 0 (w .toHost) (ends .hostTimer (w .host) b) o (a .ended-timer (w .host) b o);
+          timerM = λ w b o. machine-ended w (w .toMachine) (ends .machineTimer (w .machine) b) o;
         }
 
-    further-over : (w : World H M) (x : X) → Over (w .host) → Over (ends .further w x .host)
-    further-over w x o = subst Over (sym (a .unmoved w x)) o
+    further-ended : (w : World H M) (x : X) → Ended (w .host) → Ended (ends .further w x .host)
+    further-ended w x o = subst Ended (sym (a .unmoved w x)) o
 
     -- ---- one event
-    host-same : (w : World H M) (n : ℕ) (rest : List Frame) (x y : Turn H) → Good (w .host) → Agrees Good Over x y
+    host-same : (w : World H M) (n : ℕ) (rest : List Frame) (x y : Turn H) → Good (w .host) → Agrees Good Ended x y
         → Same (hostTurn w n rest x) (hostTurn w n rest y) (returned fromHost x) (returned fromHost y)
     host-same w n rest refuses y g e = inr (g, ap (hostTurn w n rest) e, ap (returned fromHost) e)
     host-same w n rest (acts x out) y g (inl o) = inl o
@@ -144,7 +132,7 @@ module _ {H M X : Type 0} (ends : Ends H M X) (frame : H → Frame → List ℕ 
     unfolding run allTaken
     run-same w [] g = inr (g, refl, refl)
     run-same w (e ∷ es) g =
-        ⊎-elim (λ o. inl (always ends (λ v. Over (v .host)) closed-over further-over (step ends w e) es o))
+        ⊎-elim (λ o. inl (always ends (λ v. Ended (v .host)) closed-ended further-ended (step ends w e) es o))
         (λ s. joined (takes ends more w e) (takes other more w e) (s .2)
         (subst (λ (v : World H M). Same (run ends (step ends w e) es) (run other v es) (allTaken ends more (step ends) (step ends w e) es) (allTaken other more (step other) v es))
         (s .1) (run-same (step ends w e) es (s .0)))) (one-event w e g)
@@ -154,19 +142,19 @@ module _ {H M X : Type 0} (ends : Ends H M X) (frame : H → Frame → List ℕ 
     unfolding runWithin allTaken
     run-within-same n w [] g = inr (g, refl, refl)
     run-within-same n w (e ∷ es) g =
-        ⊎-elim (λ o. inl (always-within ends (λ v. Over (v .host)) closed-over further-over n (stepWithin n ends w e) es o))
+        ⊎-elim (λ o. inl (always-within ends (λ v. Ended (v .host)) closed-ended further-ended n (stepWithin n ends w e) es o))
         (λ s. joined (takes ends more w e) (takes other more w e) (s .2)
         (subst (λ (v : World H M). Same (runWithin n ends (stepWithin n ends w e) es) (runWithin n other (within n v) es) (allTaken ends more (stepWithin n ends) (stepWithin n ends w e) es) (allTaken other more (stepWithin n other) (within n v) es))
         (s .1) (run-within-same n (stepWithin n ends w e) es (s .0)))) (one-event w e g)
 
-    -- ---- from a good record on, unless the first host is over
-    pub same : (w : World H M) → Good (w .host) → (es : List (Event X)) → (Over (run ends w es .host) → ⊥) → SameRun ends other more w es
+    -- ---- from a good record on, unless the first host has ended
+    pub same : (w : World H M) → Good (w .host) → (es : List (Event X)) → (Ended (run ends w es .host) → ⊥) → SameRun ends other more w es
     same w g es up = ⊎-elim (λ o. absurd (up o)) (λ x. (x .1, x .2)) (run-same w es g)
 
     -- and on a line with bounded queues
-    pub same-within : (w : World H M) → Good (w .host) → (n : ℕ) (es : List (Event X)) → (Over (runWithin n ends w es .host) → ⊥) → SameWithin ends other more w es n
+    pub same-within : (w : World H M) → Good (w .host) → (n : ℕ) (es : List (Event X)) → (Ended (runWithin n ends w es .host) → ⊥) → SameWithin ends other more w es n
     same-within w g n es up = ⊎-elim (λ o. absurd (up o)) (λ x. (x .1, x .2)) (run-within-same n w es g)
 
-    -- a host that is over stays so: what is the same after a list was the same after each of its beginnings
-    pub still-over : (w : World H M) (es fs : List (Event X)) → Over (run ends w es .host) → Over (run ends w (es ++ fs) .host)
-    still-over w es fs o = rw (run-joined ends w es fs) (always ends (λ v. Over (v .host)) closed-over further-over (run ends w es) fs o)
+    -- a host that has ended stays so: what is the same after a list was the same after each of its beginnings
+    pub stays-ended : (w : World H M) (es fs : List (Event X)) → Ended (run ends w es .host) → Ended (run ends w (es ++ fs) .host)
+    stays-ended w es fs o = rw (run-joined ends w es fs) (always ends (λ v. Ended (v .host)) closed-ended further-ended (run ends w es) fs o)

@@ -5,11 +5,28 @@ use mathlib.Core.List.{List, [], _∷_, _++_, append-nil}
 use lib.ListN.{take, drop, take-append-drop}
 use Rattle.link.specs.Link.{Frame, Turn, refuses, acts, World, Ends, Event, own, further, handToMachine, keepToMachine, dropToMachine, handToHost, keepToHost, dropToHost, hostTimer, machineTimer, Own, machineTurn, hostTurn, withToMachine, withToHost, Left, left, lastLeft, counts, ownStep, step, run}
 use Rattle.link.specs.LinkLaws.{handedToMachine, keptToMachine, droppedToMachine, handedToHost, keptToHost, droppedToHost, Lost, here, there, run-joined, Closed, kept as kept-own, kept-any}
-use Rattle.link.specs.Taken.{Thinned, none, kept, lost}
-use Rattle.link.specs.TakenLaws.{whole, joined, all-lost}
 use Rattle.link.specs.Bounded.{within, stepWithin, runWithin, Alike}
 
+-- A queue, and what is left of it when some of its frames are lost.
+pub data Thinned : List Frame → List Frame → Type 0 where
+  none : Thinned [] []
+  kept : {f : Frame} {q r : List Frame} → Thinned q r → Thinned (f ∷ q) (f ∷ r)
+  lost : {f : Frame} {q r : List Frame} → Thinned q r → Thinned (f ∷ q) r
+
+whole : (q : List Frame) → Thinned q q
+whole [] = none
+whole (f ∷ q) = kept (whole q)
+
+joined : {q r : List Frame} (out : List Frame) → Thinned q r → Thinned (q ++ out) (r ++ out)
+joined out none = whole out
+joined out (kept t) = kept (joined out t)
+joined out (lost t) = lost (joined out t)
+
 -- of the frames that are left, the first n
+all-lost : (q : List Frame) → Thinned q []
+all-lost [] = none
+all-lost (f ∷ q) = lost (all-lost q)
+
 cut : (n : ℕ) {q r : List Frame} → Thinned q r → Thinned q (take n r)
 cut zero {q} t = all-lost q
 cut (suc n) none = none

@@ -8,6 +8,9 @@ pub mod NumberedLaws
 pub mod RestartLaws
 pub mod EachLaws
 pub mod AloneLaws
+pub mod Bounded
+pub mod Taken
+pub mod TakenLaws
 pub mod MachineEnd
 pub mod MachineEndLaws
 pub mod Reset
@@ -15,9 +18,6 @@ pub mod ResetLaws
 pub mod Unrefused
 pub mod ByteLaws
 pub mod WindowLaws
-pub mod Bounded
-pub mod Taken
-pub mod TakenLaws
 pub mod BoundedLaws
 pub mod AgreeLaws
 pub mod FewLaws

@@ -60,6 +60,18 @@ pub record Ends (H M X : Type 0) : Type 0 where
   pub machineTimer : M → List ℕ → Turn M
   pub further : World H M → X → World H M
 
+-- the same ends but for the calls of the host
+abbrev pub withHost : {H M X : Type 0} → Ends H M X → (H → Frame → List ℕ → Turn H) → (H → List ℕ → Turn H) → Ends H M X
+withHost ends frame timer =
+    record {
+      hears = ends .hears;
+      hostFrame = frame;
+      hostTimer = timer;
+      machineFrame = ends .machineFrame;
+      machineTimer = ends .machineTimer;
+      further = ends .further;
+    }
+
 -- to be counted by a host with this version and verdict: a frame that can be read while the verdict is 0
 abbrev pub hearing : ℕ → ℕ → Frame → Bool
 hearing version verdict f = eqb (fields version f .refusal) 0 && eqb verdict 0

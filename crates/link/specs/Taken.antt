@@ -1,8 +1,9 @@
 -- Every frame that the link takes from its ends, in the order in which it takes them: what a list of events does, as seen on the line. It is a
 -- function of the run and no part of the world.
-use Prim.Native.Nat.{ℕ}
+use Prim.Native.Nat.{ℕ, _≤_}
 use mathlib.Core.Path.{_≡_}
 use mathlib.Core.List.{List, [], _∷_, _++_, map}
+use lib.ListN.{drop}
 use Rattle.link.specs.Link.{Frame, Turn, refuses, acts, World, Ends, Own, Event, own, further, handToMachine, keepToMachine, dropToMachine, handToHost, keepToHost, dropToHost, hostTimer, machineTimer, step, run}
 use Rattle.link.specs.Bounded.{stepWithin, runWithin}
 
@@ -32,16 +33,11 @@ machineFrames [] = []
 machineFrames (fromHost f ∷ rest) = machineFrames rest
 machineFrames (fromMachine f ∷ rest) = f ∷ machineFrames rest
 
--- A list of frames, and what is left of it, in its order, when some are gone.
-pub data Thinned : List Frame → List Frame → Type 0 where
-  none : Thinned [] []
-  kept : {f : Frame} {q r : List Frame} → Thinned q r → Thinned (f ∷ q) (f ∷ r)
-  lost : {f : Frame} {q r : List Frame} → Thinned q r → Thinned (f ∷ q) r
-
--- The frames on their way are among those that the link took from the end that they come from, in its order.
-pub record Listed {H M : Type 0} (all : List Taken) (w : World H M) : Type 0 where
-  pub toMachine : Thinned (hostFrames all) (w .toMachine)
-  pub toHost : Thinned (machineFrames all) (w .toHost)
+-- Of an event that leads from one world to another: these frames, and no others, joined the queues, those of the host the one to the machine and those
+-- of the machine the one to the host; and one frame at most left each queue, from its front.
+pub record Joined {H M : Type 0} (all : List Taken) (w v : World H M) : Type 0 where
+  pub toMachine : (gone : ℕ) × (gone ≤ 1) × (v .toMachine ≡ drop gone (w .toMachine) ++ hostFrames all)
+  pub toHost : (gone : ℕ) × (gone ≤ 1) × (v .toHost ≡ drop gone (w .toHost) ++ machineFrames all)
 
 -- `more` is what the link takes in a further event
 module _ {H M X : Type 0} (ends : Ends H M X) (more : World H M → X → List Taken) where

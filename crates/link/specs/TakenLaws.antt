@@ -1,11 +1,11 @@
 -- The frames taken, against the world: `taken` is the number of the host's, and the frames on their way are among them.
-use Prim.Native.Nat.{ℕ, _+_}
-use mathlib.Core.Path.{_≡_, refl, ap, subst}
-use mathlib.Core.List.{List, [], _∷_, _++_, map, append-nil, append-assoc}
+use Prim.Native.Nat.{ℕ, _+_, _≤_}
+use mathlib.Core.Path.{_≡_, refl, ap, sym, subst}
+use mathlib.Core.List.{List, [], _∷_, _++_, map, append-nil}
 use native.Mathlib.Omega.{arith}
-use lib.ListN.{length, length-append}
-use Rattle.link.specs.Link.{Frame, Turn, refuses, acts, World, Ends, Event, own, further, handToMachine, keepToMachine, dropToMachine, handToHost, keepToHost, dropToHost, hostTimer, machineTimer, machineTurn, hostTurn, withToMachine, withToHost, onFirst, counts, step, run}
-use Rattle.link.specs.Taken.{Taken, fromHost, fromMachine, returned, onQueue, hostFrames, machineFrames, Thinned, none, kept, lost, Listed, takes, allTaken}
+use lib.ListN.{length, length-append, drop}
+use Rattle.link.specs.Link.{Frame, Turn, refuses, acts, World, Ends, Own, Event, own, further, handToMachine, keepToMachine, dropToMachine, handToHost, keepToHost, dropToHost, hostTimer, machineTimer, machineTurn, hostTurn, withToMachine, withToHost, onFirst, counts, step, run}
+use Rattle.link.specs.Taken.{Taken, fromHost, fromMachine, returned, onQueue, hostFrames, machineFrames, Joined, takes, allTaken}
 
 -- ---- the frames of one end: of two lists, and of those that one end sent
 pub host-joined : (a b : List Taken) → hostFrames (a ++ b) ≡ hostFrames a ++ hostFrames b
@@ -76,91 +76,64 @@ module _ {H M X : Type 0} (ends : Ends H M X) (more : World H M → X → List T
       let rest = allTaken ends more (step ends) (step ends w e) es in
       rw (host-joined (takes ends more w e) rest, length-append (hostFrames (takes ends more w e)) (hostFrames rest)) (omega (arith, one-event w e, as-many (step ends w e) es))
 
--- ---- lists that are left of others
-pub whole : (q : List Frame) → Thinned q q
-whole [] = none
-whole (f ∷ q) = kept (whole q)
+-- ---- each of the link's own events lists just what joins the queues
+-- what is left of a queue from which one frame at most is taken: all of it, or all but the first
+abbrev Rest : List Frame → List Frame → Type 0
+Rest q rest = (gone : ℕ) × (gone ≤ 1) × (rest ≡ drop gone q)
 
-pub all-lost : (q : List Frame) → Thinned q []
-all-lost [] = none
-all-lost (f ∷ q) = lost (all-lost q)
+all-left : (q p : List Frame) → q ≡ p → Rest q p
+all-left q p e = (0, omega arith, sym e)
 
-pub joined : {q r : List Frame} (out : List Frame) → Thinned q r → Thinned (q ++ out) (r ++ out)
-joined out none = whole out
-joined out (kept t) = kept (joined out t)
-joined out (lost t) = lost (joined out t)
-
-before : (p : List Frame) {q r : List Frame} → Thinned q r → Thinned (p ++ q) r
-before [] t = t
-before (f ∷ p) t = lost (before p t)
-
-one-less : {q : List Frame} {f : Frame} {r : List Frame} → Thinned q (f ∷ r) → Thinned q r
-one-less (kept t) = lost t
-one-less (lost t) = lost (one-less t)
+rest-left : (q : List Frame) (f : Frame) (r : List Frame) → q ≡ f ∷ r → Rest q r
+rest-left q f r e = (1, omega arith, rw e)
 
 module _ {H M : Type 0} where
-  -- ---- after a turn, with what is left of the queue that it was handed a frame of
-  host-listed : (all : List Taken) (w : World H M) (n : ℕ) (rest : List Frame) (t : Turn H) → Listed all w → Thinned (machineFrames all) rest
-      → Listed (all ++ returned fromHost t) (hostTurn w n rest t)
-  host-listed all w n rest refuses l r = rw append-nil l
-  host-listed all w n rest (acts h out) l r =
+  -- nothing joins them, and nothing leaves them
+  unchanged : (w : World H M) → Joined [] w w
+  unfolding hostFrames machineFrames
+  unchanged w = record { toMachine = (0, omega arith, sym (append-nil (w .toMachine))); toHost = (0, omega arith, sym (append-nil (w .toHost))) }
+
+  host-joins : (w : World H M) (n : ℕ) (rest : List Frame) (t : Turn H) → Rest (w .toHost) rest → Joined (returned fromHost t) w (hostTurn w n rest t)
+  host-joins w n rest refuses l = unchanged w
+  host-joins w n rest (acts h out) l =
       record {
-        toMachine = rw (host-joined all (map fromHost out), host-all out .0) (joined out (l .toMachine));
-        toHost = rw (machine-joined all (map fromHost out), host-all out .1, append-nil) r;
+        toMachine = (0, omega arith, rw (host-all out .0));
+        toHost = (l .0, l .1, rw (host-all out .1, append-nil) (l .2));
       }
 
-  machine-listed : (all : List Taken) (w : World H M) (rest : List Frame) (t : Turn M) → Listed all w → Thinned (hostFrames all) rest
-      → Listed (all ++ returned fromMachine t) (machineTurn w rest t)
-  machine-listed all w rest refuses l r = rw append-nil l
-  machine-listed all w rest (acts m out) l r =
+  machine-joins : (w : World H M) (rest : List Frame) (t : Turn M) → Rest (w .toMachine) rest → Joined (returned fromMachine t) w (machineTurn w rest t)
+  machine-joins w rest refuses l = unchanged w
+  machine-joins w rest (acts m out) l =
       record {
-        toMachine = rw (host-joined all (map fromMachine out), machine-all out .1, append-nil) r;
-        toHost = rw (machine-joined all (map fromMachine out), machine-all out .0) (joined out (l .toHost));
-      }
-
-  -- nothing is on its way but what the machine has just sent
-  pub anew-listed : (all : List Taken) (w : World H M) → w .toMachine ≡ [] → Listed (all ++ map fromMachine (w .toHost)) w
-  anew-listed all w e =
-      record {
-        toMachine = rw e (all-lost (hostFrames (all ++ map fromMachine (w .toHost))));
-        toHost = rw (machine-joined all (map fromMachine (w .toHost)), machine-all (w .toHost) .0) (before (machineFrames all) (whole (w .toHost)));
+        toMachine = (l .0, l .1, rw (machine-all out .1, append-nil) (l .2));
+        toHost = (0, omega arith, rw (machine-all out .0));
       }
 
   -- an event on a queue: there is none on an empty one
-  first-listed : (all : List Taken) (w : World H M) (q : List Frame) (event : Frame → List Frame → World H M) (call : Frame → List Taken) → Listed all w
-      → ((f : Frame) (r : List Frame) → q ≡ f ∷ r → Listed (all ++ call f) (event f r)) → Listed (all ++ onQueue q call) (onFirst w q event)
-  first-listed all w [] event call l e = rw append-nil l
-  first-listed all w (f ∷ q) event call l e = e f q refl
+  first-joins : (w : World H M) (q : List Frame) (event : Frame → List Frame → World H M) (call : Frame → List Taken)
+      → ((f : Frame) (r : List Frame) → q ≡ f ∷ r → Joined (call f) w (event f r)) → Joined (onQueue q call) w (onFirst w q event)
+  first-joins w [] event call e = unchanged w
+  first-joins w (f ∷ q) event call e = e f q refl
 
--- ---- every run, with further events that keep to the list
-module _ {H M X : Type 0} (ends : Ends H M X) (more : World H M → X → List Taken)
-    (lists : (all : List Taken) (w : World H M) (x : X) → Listed all w → Listed (all ++ more w x) (ends .further w x)) where
-  listed-event : (all : List Taken) (w : World H M) (e : Event X) → Listed all w → Listed (all ++ takes ends more w e) (step ends w e)
-  listed-event all w (own (handToMachine b)) l =
-      first-listed all w (w .toMachine) _ _ l (λ f q e. machine-listed all w q (ends .machineFrame (w .machine) f b) l (one-less (subst (Thinned (hostFrames all)) e (l .toMachine))))
-  listed-event all w (own (keepToMachine b)) l =
-      first-listed all w (w .toMachine) _ _ l (λ f q e. machine-listed all w (f ∷ q) (ends .machineFrame (w .machine) f b) l (subst (Thinned (hostFrames all)) e (l .toMachine)))
-  listed-event all w (own dropToMachine) l = dropped (w .toMachine) refl
-    where
-      dropped : (q : List Frame) → w .toMachine ≡ q → Listed (all ++ []) (onFirst w q (λ f r. withToMachine w r))
-      dropped [] e = rw append-nil l
-      dropped (f ∷ q) e = rw append-nil (record { toMachine = one-less (subst (Thinned (hostFrames all)) e (l .toMachine)); toHost = l .toHost })
-  listed-event all w (own (handToHost b)) l =
-      first-listed all w (w .toHost) _ _ l (λ f q e. host-listed all w (counts ends (w .host) f) q (ends .hostFrame (w .host) f b) l (one-less (subst (Thinned (machineFrames all)) e (l .toHost))))
-  listed-event all w (own (keepToHost b)) l =
-      first-listed all w (w .toHost) _ _ l (λ f q e. host-listed all w (counts ends (w .host) f) (f ∷ q) (ends .hostFrame (w .host) f b) l (subst (Thinned (machineFrames all)) e (l .toHost)))
-  listed-event all w (own dropToHost) l = dropped (w .toHost) refl
-    where
-      dropped : (q : List Frame) → w .toHost ≡ q → Listed (all ++ []) (onFirst w q (λ f r. withToHost w r))
-      dropped [] e = rw append-nil l
-      dropped (f ∷ q) e = rw append-nil (record { toMachine = l .toMachine; toHost = one-less (subst (Thinned (machineFrames all)) e (l .toHost)) })
-  listed-event all w (own (hostTimer b)) l = host-listed all w 0 (w .toHost) (ends .hostTimer (w .host) b) l (l .toHost)
-  listed-event all w (own (machineTimer b)) l = machine-listed all w (w .toMachine) (ends .machineTimer (w .machine) b) l (l .toMachine)
-  listed-event all w (further x) l = lists all w x l
+  -- a dropped frame is no call
+  dropped-joins : (w : World H M) (q : List Frame) (event : Frame → List Frame → World H M) → ((f : Frame) (r : List Frame) → q ≡ f ∷ r → Joined [] w (event f r))
+      → Joined [] w (onFirst w q event)
+  dropped-joins w [] event e = unchanged w
+  dropped-joins w (f ∷ q) event e = e f q refl
 
-  pub listed-run : (all : List Taken) (w : World H M) (es : List (Event X)) → Listed all w → Listed (all ++ allTaken ends more (step ends) w es) (run ends w es)
-  unfolding run allTaken
-  listed-run all w [] l = rw append-nil l
-  listed-run all w (e ∷ es) l =
-      subst (λ (t : List Taken). Listed t (run ends (step ends w e) es)) (append-assoc all (takes ends more w e) (allTaken ends more (step ends) (step ends w e) es))
-      (listed-run (all ++ takes ends more w e) (step ends w e) es (listed-event all w e l))
+pub own-joins : {H M X : Type 0} (ends : Ends H M X) (more : World H M → X → List Taken) (w : World H M) (e : Own) → Joined (takes ends more w (own e)) w (step ends w (own e))
+unfolding hostFrames machineFrames
+own-joins ends more w (handToMachine b) =
+    first-joins w (w .toMachine) _ _ (λ f q e. machine-joins w q (ends .machineFrame (w .machine) f b) (rest-left (w .toMachine) f q e))
+own-joins ends more w (keepToMachine b) =
+    first-joins w (w .toMachine) _ _ (λ f q e. machine-joins w (f ∷ q) (ends .machineFrame (w .machine) f b) (all-left (w .toMachine) (f ∷ q) e))
+own-joins ends more w dropToMachine =
+    dropped-joins w (w .toMachine) _ (λ f q e. record { toMachine = (1, omega arith, rw (e, append-nil)); toHost = unchanged w .toHost })
+own-joins ends more w (handToHost b) =
+    first-joins w (w .toHost) _ _ (λ f q e. host-joins w (counts ends (w .host) f) q (ends .hostFrame (w .host) f b) (rest-left (w .toHost) f q e))
+own-joins ends more w (keepToHost b) =
+    first-joins w (w .toHost) _ _ (λ f q e. host-joins w (counts ends (w .host) f) (f ∷ q) (ends .hostFrame (w .host) f b) (all-left (w .toHost) (f ∷ q) e))
+own-joins ends more w dropToHost =
+    dropped-joins w (w .toHost) _ (λ f q e. record { toMachine = unchanged w .toMachine; toHost = (1, omega arith, rw (e, append-nil)) })
+own-joins ends more w (hostTimer b) = host-joins w 0 (w .toHost) (ends .hostTimer (w .host) b) (0, omega arith, refl)
+own-joins ends more w (machineTimer b) = machine-joins w (w .toMachine) (ends .machineTimer (w .machine) b) (0, omega arith, refl)

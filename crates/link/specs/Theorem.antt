@@ -6,11 +6,13 @@ use mathlib.Core.List.{List}
 use lib.ListN.{length}
 use Rattle.memory.specs.Memory.{WindowKept}
 use Rattle.machine_record.specs.declared.Settings.{Settings}
-use Rattle.link.specs.Link.{Frame, Turn, World, Ends, Event, run}
+use Rattle.link.specs.Link.{Frame, Turn, World, Ends, Own, Event, own, step, run}
+use Rattle.link.specs.Taken.{Taken, hostFrames, machineFrames, Joined, takes}
+use Rattle.link.specs.TakenLaws.{own-joins}
 use Rattle.link.specs.LinkLaws.{always}
 use Rattle.link.specs.MachineEnd.{End, endsWith}
 use Rattle.link.specs.WindowLaws.{Kept, window-closed}
-use Rattle.link.specs.Reset.{resets}
+use Rattle.link.specs.Reset.{resets, resetTakes}
 use Rattle.link.specs.ResetLaws.{length-anew, anew-keeps, anew-any}
 use Rattle.link.specs.Bounded.{runWithin, Alike}
 use Rattle.link.specs.BoundedLaws.{alike-run}
@@ -40,3 +42,14 @@ reset-leaves ms w bytes = (length-anew (ms .window) 0 bytes (w .machine .memory)
 pub reset-any : {H : Type 0} (ms : Settings) (w : World H End) (memory : List ℕ) → length memory ≡ length (w .machine .memory)
     → WindowKept (ms .window) (w .machine .memory) memory → resets ms w memory .machine .memory ≡ memory
 reset-any ms w memory = anew-any (ms .window) (w .machine .memory) memory
+
+-- What is listed of one of the link's own events, in any world and whatever the ends are, is just what joins the queues: no frame is left out, and
+-- none is invented. `more` is what the link takes in a further event.
+pub listed : {H M X : Type 0} (ends : Ends H M X) (more : World H M → X → List Taken) (w : World H M) (e : Own) → Joined (takes ends more w (own e)) w (step ends w (own e))
+listed = own-joins
+
+-- And so it is of a reset, which empties both queues first: they are then what it lists.
+pub listed-reset : {H : Type 0} (ms : Settings) (w : World H End) (bytes : List ℕ)
+    → (resets ms w bytes .toMachine ≡ hostFrames (resetTakes ms w bytes)) × (resets ms w bytes .toHost ≡ machineFrames (resetTakes ms w bytes))
+unfolding hostFrames machineFrames
+listed-reset ms w bytes = (refl, refl)

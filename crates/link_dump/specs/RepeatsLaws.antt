@@ -34,18 +34,18 @@ use Rattle.link_dump.specs.AloneLaws.{Good, bound, on-heard, on-timed}
 
 -- ---- a dump that was given up stays so
 module _ (s : DumpSettings) (h : Host) where
-  over-heard : (f : Frame) (t : Turn Host) → GaveUp h → Heard s h f t → Leaving GaveUp t
-  over-heard f t o refused = tt
-  over-heard f t o (ignored x n) = n .verdict ∙ o
-  over-heard f t o (begins x w v n) = absurd (omega (arith, o, v))
-  over-heard f t o (asks x d w a l n) = absurd (omega (arith, o, w .1))
-  over-heard f t o (finishes x d w a l n) = absurd (omega (arith, o, w .1))
+  ended-heard : (f : Frame) (t : Turn Host) → GaveUp h → Heard s h f t → Leaving GaveUp t
+  ended-heard f t o refused = tt
+  ended-heard f t o (ignored x n) = n .verdict ∙ o
+  ended-heard f t o (begins x w v n) = absurd (omega (arith, o, v))
+  ended-heard f t o (asks x d w a l n) = absurd (omega (arith, o, w .1))
+  ended-heard f t o (finishes x d w a l n) = absurd (omega (arith, o, w .1))
 
-  over-timed : (t : Turn Host) → GaveUp h → Timed s h t → Leaving GaveUp t
-  over-timed t o refused = tt
-  over-timed t o (ignored x n) = n .verdict ∙ o
-  over-timed t o (repeats x w r n) = absurd (omega (arith, o, w .1))
-  over-timed t o (givesUp x w r n) = absurd (omega (arith, o, w .1))
+  ended-timed : (t : Turn Host) → GaveUp h → Timed s h t → Leaving GaveUp t
+  ended-timed t o refused = tt
+  ended-timed t o (ignored x n) = n .verdict ∙ o
+  ended-timed t o (repeats x w r n) = absurd (omega (arith, o, w .1))
+  ended-timed t o (givesUp x w r n) = absurd (omega (arith, o, w .1))
 
 module _ (s : DumpSettings) (R R′ : ℕ) (larger : R ≤ R′) (most : R′ ≤ 255) where
   -- what a call of the host comes to, with x for R
@@ -150,7 +150,7 @@ module _ (s : DumpSettings) (R R′ : ℕ) (larger : R ≤ R′) (most : R′ �
         record {
           on-frame = on-frame;
           on-timer = on-timer;
-          over-frame = λ h f b o. over-heard (withRepeats R s) h f (onFrame R h f b) o (heard (withRepeats R s) h f b);
-          over-timer = λ h b o. over-timed (withRepeats R s) h (onTime R h b) o (timed (withRepeats R s) h b);
+          ended-frame = λ h f b o. ended-heard (withRepeats R s) h f (onFrame R h f b) o (heard (withRepeats R s) h f b);
+          ended-timer = λ h b o. ended-timed (withRepeats R s) h (onTime R h b) o (timed (withRepeats R s) h b);
           unmoved = unmoved;
         }

@@ -22,7 +22,7 @@ use Rattle.load.specs.Load.{loadFrame, loadTimer}
 use Rattle.link.specs.Link.{Frame, Turn, turned, Ends, World, hearing, Event, Left, left, lastLeft, step, run}
 use Rattle.link.specs.Taken.{Taken, fromMachine, allTaken}
 use Rattle.link.specs.MachineEnd.{End, frameTurn, timerTurn, freshWith}
-use Rattle.link.specs.Reset.{resets}
+use Rattle.link.specs.Reset.{resets, resetTakes}
 
 -- the host's end is its record alone
 abbrev pub hostEnd : Session → Unit {0} → Session
@@ -40,9 +40,9 @@ Reset s = ResetIf (s .restart)
 abbrev pub onReset : {restart : ℕ} → MachineSettings → World Session End → ResetIf restart → World Session End
 onReset ms w (reset setting bytes) = resets ms w bytes
 
--- what the link takes in a reset: all that is on its way after it
-abbrev pub resetTakes : {restart : ℕ} → MachineSettings → World Session End → ResetIf restart → List Taken
-resetTakes ms w x = map fromMachine (onReset ms w x .toHost)
+-- and what the link takes in it
+abbrev pub onResetTakes : {restart : ℕ} → MachineSettings → World Session End → ResetIf restart → List Taken
+onResetTakes ms w (reset setting bytes) = resetTakes ms w bytes
 
 -- the calls of the host, as the code promises them, beside any machine and any further events
 abbrev pub hostBeside : {M X : Type 0} → LoadSettings → List ℕ → List ℕ → (M → Frame → List ℕ → Turn M) → (M → List ℕ → Turn M) → (World Session M → X → World Session M)
@@ -76,7 +76,7 @@ module _ (s : LoadSettings) (ms : MachineSettings) (file string memory : List �
 
   -- and every frame that the link took, in order, the fresh machine's first
   abbrev pub allFrames : List Taken
-  allFrames = map fromMachine (freshWorld ms memory .toHost) ++ allTaken (loadEnds s ms file string) (resetTakes ms) (step (loadEnds s ms file string)) (freshWorld ms memory) es
+  allFrames = map fromMachine (freshWorld ms memory .toHost) ++ allTaken (loadEnds s ms file string) (onResetTakes ms) (step (loadEnds s ms file string)) (freshWorld ms memory) es
 
 -- A host has heard of the reset that left these ends: it was waiting when the reset came, or stood at c = 0 with verdict 0; or its record says
 -- that it has begun again since. Fresh ends are as if it had: their host waits.
@@ -130,6 +130,9 @@ abbrev pub withRepeats : ℕ → LoadSettings → LoadSettings
 withRepeats R s =
     record { «segment_size» = s .«segment_size»; repeats = R; «with_parameters» = s .«with_parameters»; restart = s .restart; version = s .version }
 
--- a load that was given up, or is unconfirmed: the host stopped because the frame on its way was repeated R times
+-- the verdicts given up and unconfirmed: the host stopped because the frame on its way was repeated R times
+abbrev pub GivenUp : ℕ → Type 0
+GivenUp verdict = (verdict ≡ 3) ⊎ (verdict ≡ 4)
+
 abbrev pub GaveUp : Session → Type 0
-GaveUp h = (h .verdict ≡ 3) ⊎ (h .verdict ≡ 4)
+GaveUp h = GivenUp (h .verdict)

@@ -28,7 +28,7 @@ use Rattle.load.specs.Load.{does, loadFrame, loadTimer}
 use Rattle.link.specs.Link.{Frame, Turn, turned, World, Ends}
 use Rattle.link.specs.AloneLaws.{Keeps}
 use Rattle.link.specs.AgreeLaws.{Leaving, Agrees, leaving, acts-agree, denied-agree, Agree}
-use Rattle.link_load.specs.Model.{hostEnd, hostBeside, withRepeats, GaveUp}
+use Rattle.link_load.specs.Model.{hostEnd, hostBeside, withRepeats, GivenUp, GaveUp}
 use Rattle.link_load.specs.HostLaws.{Heard, refused, ignored, begins, restarts, advances, finishes, rejects, Timed, repeats, givesUp, unconfirmed, F, heard, timed}
 use Rattle.link_load.specs.AloneLaws.{Good, bound, on-heard, on-timed}
 
@@ -40,21 +40,21 @@ module _ (N R E : ℕ) (F : ℕ → Frame) (h : Session) where
   stays : (x : Session) → x .verdict ≡ h .verdict → GaveUp h → GaveUp x
   stays x e = ⊎-elim (λ q. inl (e ∙ q)) (λ q. inr (e ∙ q))
 
-  over-heard : (f : Frame) (t : Turn Session) → GaveUp h → Heard N R E F h f t → Leaving GaveUp t
-  over-heard f t o refused = tt
-  over-heard f t o (ignored x n) = stays x (n .verdict) o
-  over-heard f t o (begins x w v n) = absurd (running o v)
-  over-heard f t o (restarts x w v r l e n) = absurd (running o v)
-  over-heard f t o (advances x w a l n) = absurd (running o (w .1))
-  over-heard f t o (finishes x w a b l n) = absurd (running o (w .1))
-  over-heard f t o (rejects x e w a r n) = absurd (running o (w .1))
+  ended-heard : (f : Frame) (t : Turn Session) → GaveUp h → Heard N R E F h f t → Leaving GaveUp t
+  ended-heard f t o refused = tt
+  ended-heard f t o (ignored x n) = stays x (n .verdict) o
+  ended-heard f t o (begins x w v n) = absurd (running o v)
+  ended-heard f t o (restarts x w v r l e n) = absurd (running o v)
+  ended-heard f t o (advances x w a l n) = absurd (running o (w .1))
+  ended-heard f t o (finishes x w a b l n) = absurd (running o (w .1))
+  ended-heard f t o (rejects x e w a r n) = absurd (running o (w .1))
 
-  over-timed : (t : Turn Session) → GaveUp h → Timed N R E F h t → Leaving GaveUp t
-  over-timed t o refused = tt
-  over-timed t o (ignored x n) = stays x (n .verdict) o
-  over-timed t o (repeats x w r n) = absurd (running o (w .1))
-  over-timed t o (givesUp x w r l n) = absurd (running o (w .1))
-  over-timed t o (unconfirmed x w r l n) = absurd (running o (w .1))
+  ended-timed : (t : Turn Session) → GaveUp h → Timed N R E F h t → Leaving GaveUp t
+  ended-timed t o refused = tt
+  ended-timed t o (ignored x n) = stays x (n .verdict) o
+  ended-timed t o (repeats x w r n) = absurd (running o (w .1))
+  ended-timed t o (givesUp x w r l n) = absurd (running o (w .1))
+  ended-timed t o (unconfirmed x w r l n) = absurd (running o (w .1))
 
 module _ (s : LoadSettings) (file string : List ℕ) (R R′ : ℕ) (larger : R ≤ R′) (most : R′ ≤ 255) where
   abbrev N : ℕ
@@ -80,7 +80,7 @@ module _ (s : LoadSettings) (file string : List ℕ) (R R′ : ℕ) (larger : R 
       where
         go : (v w r : Bool) → eqb (h .verdict) 0 ≡ v → eqb (h .waiting) 0 ≡ w → ltb (h .repeats) R ≡ r → (timerAct R ≡ timerAct R′) ⊎ GaveUp (timerAct R .end)
         go true true true e q l = let less = ltb-true (h .repeats) R l in inl (rw (l, lt-ltb (h .repeats) R′ (omega (arith, larger))))
-        go true true false e q l = inr (rw (e, q, l) (by-cases (λ (n : ℕ). (n ≡ 3) ⊎ (n ≡ 4)) (more N h) (λ _. inl refl) (λ _. inr refl)))
+        go true true false e q l = inr (rw (e, q, l) (by-cases GivenUp (more N h) (λ _. inl refl) (λ _. inr refl)))
         go true false r e q l = inl (rw q)
         go false w r e q l = inl (rw e)
 
@@ -153,7 +153,7 @@ module _ (s : LoadSettings) (file string : List ℕ) (R R′ : ℕ) (larger : R 
         record {
           on-frame = on-frame;
           on-timer = on-timer;
-          over-frame = λ h f b o. over-heard N R E (F s file string) h f (onFrame R h f b) o (heard (withRepeats R s) file string h f b);
-          over-timer = λ h b o. over-timed N R E (F s file string) h (onTime R h b) o (timed (withRepeats R s) file string h b);
+          ended-frame = λ h f b o. ended-heard N R E (F s file string) h f (onFrame R h f b) o (heard (withRepeats R s) file string h f b);
+          ended-timer = λ h b o. ended-timed N R E (F s file string) h (onTime R h b) o (timed (withRepeats R s) file string h b);
           unmoved = unmoved;
         }
