@@ -33,8 +33,8 @@ machineFrames [] = []
 machineFrames (fromHost f ∷ rest) = machineFrames rest
 machineFrames (fromMachine f ∷ rest) = f ∷ machineFrames rest
 
--- Of an event that leads from one world to another: these frames, and no others, joined the queues, those of the host the one to the machine and those
--- of the machine the one to the host; and one frame at most left each queue, from its front.
+-- Of an event that leads from one world to another: just these frames joined the queues, the host's the one to the machine, the machine's the one to
+-- the host; and one frame at most left each queue, from its front.
 pub record Joined {H M : Type 0} (all : List Taken) (w v : World H M) : Type 0 where
   pub toMachine : (gone : ℕ) × (gone ≤ 1) × (v .toMachine ≡ drop gone (w .toMachine) ++ hostFrames all)
   pub toHost : (gone : ℕ) × (gone ≤ 1) × (v .toHost ≡ drop gone (w .toHost) ++ machineFrames all)

@@ -129,8 +129,8 @@ module _ (s : DumpSettings) (R R′ : ℕ) (larger : R ≤ R′) (most : R′ �
   on-timer : (h : Host) (b : List ℕ) → GoodIf h → Agrees GoodIf GaveUp (onTime R h b) (onTime R′ h b)
   on-timer h b g =
       let size = length (h .buffer) in
-      let n = refusal (withRepeats R s) (h .session) (length (h .buffer)) (length b) in
-      let n′ = refusal (withRepeats R′ s) (h .session) (length (h .buffer)) (length b) in
+      let n = refusal (withRepeats R s) (h .session) size (length b) in
+      let n′ = refusal (withRepeats R′ s) (h .session) size (length b) in
       elim (ℕ-discrete (s .length) 0) [
         | yes zero ↦ denied-agree GoodIf GaveUp hostEnd n n′ (h .session) (h .buffer) b (timerAct h R) (timerAct h R′)
             (refuses-all R (h .session) size (length b) zero) (refuses-all R′ (h .session) size (length b) zero)
