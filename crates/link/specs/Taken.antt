@@ -1,8 +1,9 @@
 -- Every frame that the link takes from its ends, in the order in which it takes them: what a list of events does, as seen on the line. It is a
 -- function of the run and no part of the world.
-use Prim.Native.Nat.{ℕ, _≤_}
+use Prim.Native.Nat.{ℕ}
 use mathlib.Core.Path.{_≡_}
 use mathlib.Core.List.{List, [], _∷_, _++_, map}
+use mathlib.Core.Logic.{_⊎_}
 use lib.ListN.{drop}
 use Rattle.link.specs.Link.{Frame, Turn, refuses, acts, World, Ends, Own, Event, own, further, handToMachine, keepToMachine, dropToMachine, handToHost, keepToHost, dropToHost, hostTimer, machineTimer, step, run}
 use Rattle.link.specs.Bounded.{stepWithin, runWithin}
@@ -33,11 +34,14 @@ machineFrames [] = []
 machineFrames (fromHost f ∷ rest) = machineFrames rest
 machineFrames (fromMachine f ∷ rest) = f ∷ machineFrames rest
 
--- Of an event that leads from one world to another: just these frames joined the queues, the host's the one to the machine, the machine's the one to
--- the host; and one frame at most left each queue, from its front.
+-- What an event makes of a queue: frames join it at its back, or none does and its first frame leaves it.
+abbrev pub Changed : List Frame → List Frame → List Frame → Type 0
+Changed queue joining after = (after ≡ queue ++ joining) ⊎ ((joining ≡ []) × (after ≡ drop 1 queue))
+
+-- Just these frames joined the queues from one world to another: the host's the one to the machine, the machine's the one to the host.
 pub record Joined {H M : Type 0} (all : List Taken) (w v : World H M) : Type 0 where
-  pub toMachine : (gone : ℕ) × (gone ≤ 1) × (v .toMachine ≡ drop gone (w .toMachine) ++ hostFrames all)
-  pub toHost : (gone : ℕ) × (gone ≤ 1) × (v .toHost ≡ drop gone (w .toHost) ++ machineFrames all)
+  pub toMachine : Changed (w .toMachine) (hostFrames all) (v .toMachine)
+  pub toHost : Changed (w .toHost) (machineFrames all) (v .toHost)
 
 -- `more` is what the link takes in a further event
 module _ {H M X : Type 0} (ends : Ends H M X) (more : World H M → X → List Taken) where

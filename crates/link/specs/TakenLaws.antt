@@ -1,11 +1,12 @@
 -- The frames taken, against the world: `taken` is the number of the host's, and the frames on their way are among them.
-use Prim.Native.Nat.{ℕ, _+_, _≤_}
-use mathlib.Core.Path.{_≡_, refl, ap, sym, subst}
+use Prim.Native.Nat.{ℕ, _+_}
+use mathlib.Core.Path.{_≡_, refl, ap, sym}
 use mathlib.Core.List.{List, [], _∷_, _++_, map, append-nil}
+use mathlib.Core.Logic.{_⊎_, inl, inr}
 use native.Mathlib.Omega.{arith}
 use lib.ListN.{length, length-append, drop}
 use Rattle.link.specs.Link.{Frame, Turn, refuses, acts, World, Ends, Own, Event, own, further, handToMachine, keepToMachine, dropToMachine, handToHost, keepToHost, dropToHost, hostTimer, machineTimer, machineTurn, hostTurn, withToMachine, withToHost, onFirst, counts, step, run}
-use Rattle.link.specs.Taken.{Taken, fromHost, fromMachine, returned, onQueue, hostFrames, machineFrames, Joined, takes, allTaken}
+use Rattle.link.specs.Taken.{Taken, fromHost, fromMachine, returned, onQueue, hostFrames, machineFrames, Changed, Joined, takes, allTaken}
 
 -- ---- the frames of one end: of two lists, and of those that one end sent
 pub host-joined : (a b : List Taken) → hostFrames (a ++ b) ≡ hostFrames a ++ hostFrames b
@@ -77,37 +78,32 @@ module _ {H M X : Type 0} (ends : Ends H M X) (more : World H M → X → List T
       rw (host-joined (takes ends more w e) rest, length-append (hostFrames (takes ends more w e)) (hostFrames rest)) (omega (arith, one-event w e, as-many (step ends w e) es))
 
 -- ---- each of the link's own events lists just what joins the queues
--- what is left of a queue from which one frame at most is taken: all of it, or all but the first
+-- what is left of a queue: all of it, or all but the first
 abbrev Rest : List Frame → List Frame → Type 0
-Rest q rest = (gone : ℕ) × (gone ≤ 1) × (rest ≡ drop gone q)
-
-all-left : (q p : List Frame) → q ≡ p → Rest q p
-all-left q p e = (0, omega arith, sym e)
+Rest q rest = (rest ≡ q) ⊎ (rest ≡ drop 1 q)
 
 rest-left : (q : List Frame) (f : Frame) (r : List Frame) → q ≡ f ∷ r → Rest q r
-rest-left q f r e = (1, omega arith, rw e)
+rest-left q f r e = inr (rw e)
+
+none-joins : (q joining rest : List Frame) → joining ≡ [] → Rest q rest → Changed q joining rest
+none-joins q joining rest e (inl same) = inl (rw (e, append-nil) same)
+none-joins q joining rest e (inr less) = inr (e, less)
 
 module _ {H M : Type 0} where
-  -- nothing joins them, and nothing leaves them
   unchanged : (w : World H M) → Joined [] w w
   unfolding hostFrames machineFrames
-  unchanged w = record { toMachine = (0, omega arith, sym (append-nil (w .toMachine))); toHost = (0, omega arith, sym (append-nil (w .toHost))) }
+  unchanged w = record { toMachine = inl (sym (append-nil (w .toMachine))); toHost = inl (sym (append-nil (w .toHost))) }
 
+  -- a turn, with what is left of the queue that it is handed a frame of
   host-joins : (w : World H M) (n : ℕ) (rest : List Frame) (t : Turn H) → Rest (w .toHost) rest → Joined (returned fromHost t) w (hostTurn w n rest t)
   host-joins w n rest refuses l = unchanged w
   host-joins w n rest (acts h out) l =
-      record {
-        toMachine = (0, omega arith, rw (host-all out .0));
-        toHost = (l .0, l .1, rw (host-all out .1, append-nil) (l .2));
-      }
+      record { toMachine = inl (rw (host-all out .0)); toHost = none-joins (w .toHost) (machineFrames (map fromHost out)) rest (host-all out .1) l }
 
   machine-joins : (w : World H M) (rest : List Frame) (t : Turn M) → Rest (w .toMachine) rest → Joined (returned fromMachine t) w (machineTurn w rest t)
   machine-joins w rest refuses l = unchanged w
   machine-joins w rest (acts m out) l =
-      record {
-        toMachine = (l .0, l .1, rw (machine-all out .1, append-nil) (l .2));
-        toHost = (0, omega arith, rw (machine-all out .0));
-      }
+      record { toMachine = none-joins (w .toMachine) (hostFrames (map fromMachine out)) rest (machine-all out .1) l; toHost = inl (rw (machine-all out .0)) }
 
   -- an event on a queue: there is none on an empty one
   first-joins : (w : World H M) (q : List Frame) (event : Frame → List Frame → World H M) (call : Frame → List Taken)
@@ -126,14 +122,14 @@ unfolding hostFrames machineFrames
 own-joins ends more w (handToMachine b) =
     first-joins w (w .toMachine) _ _ (λ f q e. machine-joins w q (ends .machineFrame (w .machine) f b) (rest-left (w .toMachine) f q e))
 own-joins ends more w (keepToMachine b) =
-    first-joins w (w .toMachine) _ _ (λ f q e. machine-joins w (f ∷ q) (ends .machineFrame (w .machine) f b) (all-left (w .toMachine) (f ∷ q) e))
+    first-joins w (w .toMachine) _ _ (λ f q e. machine-joins w (f ∷ q) (ends .machineFrame (w .machine) f b) (inl (sym e)))
 own-joins ends more w dropToMachine =
-    dropped-joins w (w .toMachine) _ (λ f q e. record { toMachine = (1, omega arith, rw (e, append-nil)); toHost = unchanged w .toHost })
+    dropped-joins w (w .toMachine) _ (λ f q e. record { toMachine = inr (refl, rw e); toHost = unchanged w .toHost })
 own-joins ends more w (handToHost b) =
     first-joins w (w .toHost) _ _ (λ f q e. host-joins w (counts ends (w .host) f) q (ends .hostFrame (w .host) f b) (rest-left (w .toHost) f q e))
 own-joins ends more w (keepToHost b) =
-    first-joins w (w .toHost) _ _ (λ f q e. host-joins w (counts ends (w .host) f) (f ∷ q) (ends .hostFrame (w .host) f b) (all-left (w .toHost) (f ∷ q) e))
+    first-joins w (w .toHost) _ _ (λ f q e. host-joins w (counts ends (w .host) f) (f ∷ q) (ends .hostFrame (w .host) f b) (inl (sym e)))
 own-joins ends more w dropToHost =
-    dropped-joins w (w .toHost) _ (λ f q e. record { toMachine = unchanged w .toMachine; toHost = (1, omega arith, rw (e, append-nil)) })
-own-joins ends more w (hostTimer b) = host-joins w 0 (w .toHost) (ends .hostTimer (w .host) b) (0, omega arith, refl)
-own-joins ends more w (machineTimer b) = machine-joins w (w .toMachine) (ends .machineTimer (w .machine) b) (0, omega arith, refl)
+    dropped-joins w (w .toHost) _ (λ f q e. record { toMachine = unchanged w .toMachine; toHost = inr (refl, rw e) })
+own-joins ends more w (hostTimer b) = host-joins w 0 (w .toHost) (ends .hostTimer (w .host) b) (inl refl)
+own-joins ends more w (machineTimer b) = machine-joins w (w .toMachine) (ends .machineTimer (w .machine) b) (inl refl)
