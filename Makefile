@@ -136,7 +136,7 @@ examples: $(OUT)/load_and_dump $(OUT)/page
 	$(OUT)/page
 
 # Every call between guard pages, and wrong calls that the test must find; every number of the header, and wrong ones.
-GUARDS = main check lent make steps reading writing images machine windows blocks load strings restarts dump looping
+GUARDS = main check lent make steps reading writing images machine windows blocks load strings restarts many dump looping
 
 $(OUT)/guards_%.o: tests/c/%.c $(wildcard tests/c/*.h) include/mop.h
 	@mkdir -p $(OUT)
@@ -218,7 +218,7 @@ $(SANITIZED)/probe $(SANITIZED)/say $(SANITIZED)/digest $(SANITIZED)/storm: $(SA
 	@$(DRIVER_CC) $(SANITIZE) -o $@ $^
 
 # Mutated files and frames, always the same ones for a SEED. tests/fuzz/wrong tries whether the fuzzer finds faults.
-FUZZ  = main slow hex image line host machine parameters
+FUZZ  = main slow hex image many line host machine parameters
 COUNT = 1000000
 SEED  = 1
 

@@ -10,6 +10,7 @@
 mod dump;
 mod load;
 mod machine;
+mod regions;
 
 use std::hint::black_box;
 use std::time::{Duration, Instant};
@@ -45,11 +46,19 @@ const SEGMENT_SIZE: u32 = 1490;
 /// 3.0.0, where nothing else is said.
 const VERSION: u8 = 30;
 
+/// `bench regions` takes the images of many regions alone.
 fn main() {
     println!(
         "{:<36}{:>12}{:>12}{:>9}",
         "ns per call, median", "proved", "plain", "ratio"
     );
+    if std::env::args().nth(1).is_none_or(|word| word != "regions") {
+        calls();
+    }
+    regions::rows();
+}
+
+fn calls() {
     let mut mix = Vec::new();
     for (name, frames) in [
         ("read, small frames", small_frames()),
@@ -293,8 +302,8 @@ fn image(regions: u32, bytes: u32) -> Vec<u8> {
         }
     }
     file.extend(directory.to_le_bytes());
-    file.extend((regions as u16).to_le_bytes());
-    file.extend([0, 0, 0, 2, 0, 0]);
+    file.extend(regions.to_le_bytes());
+    file.extend([0, 2, 0, 0]);
     file.extend((file.len() as u32 + 4).to_le_bytes());
     file
 }

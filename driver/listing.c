@@ -18,17 +18,18 @@ static uint64_t number(const uint8_t *bytes, int length)
     return value;
 }
 
-static entry entry_at(const uint8_t *at)
+static entry entry_at(const uint8_t *directory, uint64_t i)
 {
+    const uint8_t *at = directory + IMAGE_ENTRY * i;
     return (entry){number(at, 4), number(at + 4, 4), number(at + 8, 4)};
 }
 
 static void print_entry(FILE *out, uint64_t i, entry e)
 {
     fprintf(out,
-        "region %" PRIu64 ": %" PRIu64 " bytes at 0x%08" PRIX64 " (0o%" PRIo64 "), from byte %" PRIu64
+        "region %" PRIu64 ": %" PRIu64 " byte%s at 0x%08" PRIX64 " (0o%" PRIo64 "), from byte %" PRIu64
         " of the file on\n",
-        i + 1, e.length, e.address, e.address, e.offset);
+        i + 1, e.length, e.length == 1 ? "" : "s", e.address, e.address, e.offset);
 }
 
 static const uint8_t *directory_of(const contents *file, mop_image image)
@@ -39,25 +40,34 @@ static const uint8_t *directory_of(const contents *file, mop_image image)
 /* Regions stand in the order of their addresses. */
 unsigned image_region(const contents *file, mop_image image, uint32_t address)
 {
-    const uint8_t *at = directory_of(file, image);
+    const uint8_t *directory = directory_of(file, image);
     unsigned region = 0;
-    for (; region < image.regions && entry_at(at).address <= address; at += IMAGE_ENTRY)
+    while (region < image.regions && entry_at(directory, region).address <= address)
         region++;
     return region;
 }
 
-void image_list(FILE *out, const contents *file, mop_image image)
+static void print_entries(FILE *out, const uint8_t *directory, uint32_t from, uint32_t to)
 {
-    const uint8_t *at = directory_of(file, image);
+    for (uint32_t i = from; i < to; i++)
+        print_entry(out, i, entry_at(directory, i));
+}
+
+void image_list(FILE *out, const contents *file, mop_image image, uint32_t most)
+{
+    const uint8_t *directory = directory_of(file, image);
+    const uint32_t first = image.regions > most ? most / 2 : image.regions;
+    const uint32_t last = image.regions > most ? image.regions - most / 2 : image.regions;
     uint64_t total = 0;
-    for (uint64_t i = 0; i < image.regions; i++, at += IMAGE_ENTRY) {
-        entry e = entry_at(at);
-        print_entry(out, i, e);
-        total += e.length;
-    }
+    for (uint32_t i = 0; i < image.regions; i++)
+        total += entry_at(directory, i).length;
+    print_entries(out, directory, 0, first);
+    if (first < last)
+        fprintf(out, ".. %" PRIu32 " more regions (mopimage --list tells all) ..\n", last - first);
+    print_entries(out, directory, last, image.regions);
     fprintf(out, "transfer address: 0x%08" PRIX32 " (0o%" PRIo32 ")\n", image.transfer, image.transfer);
-    fprintf(
-        out, "%" PRIu64 " bytes to load, regions: %d; the file has %zu bytes\n", total, image.regions, file->length);
+    fprintf(out, "%" PRIu64 " bytes to load, regions: %" PRIu32 "; the file has %zu bytes\n", total, image.regions,
+        file->length);
 }
 
 /* What is wrong with an entry, or NULL. */
@@ -74,19 +84,36 @@ static const char *fault(entry e, uint64_t directory, uint64_t end_before)
     return NULL;
 }
 
-/* The entries up to the first that the refusal is about. */
-static void explain_entries(FILE *out, const contents *file, uint64_t directory, uint64_t count)
+/* Of refusal 6 the rule on the count, the rule on the directory's place, or both. */
+static void explain_directory(FILE *out, size_t length, uint64_t directory, uint64_t count)
 {
-    uint64_t end = 0;
+    const uint64_t behind = IMAGE_ENTRY * count + IMAGE_TRAILER; /* bytes from the directory on */
+    if (count == 0)
+        fputs("an image has at least one region\n", out);
+    if (count > MOP_REGIONS_MOST)
+        fprintf(out, "its directory has %" PRIu64 " regions, and an image holds at most %d\n", count, MOP_REGIONS_MOST);
+    if (behind > length)
+        fprintf(out, "with so many regions directory and trailer would have %" PRIu64 " bytes, more than the file\n",
+            behind);
+    else if (directory != length - behind)
+        fprintf(out, "with so many regions the directory would stand at byte %" PRIu64 "\n", length - behind);
+}
+
+/* The first entry that breaks a rule, behind the one before it. */
+static void explain_entry(FILE *out, const uint8_t *file, uint64_t directory, uint64_t count)
+{
+    entry before = {0, 0, 0};
     for (uint64_t i = 0; i < count; i++) {
-        entry e = entry_at(file->bytes + directory + IMAGE_ENTRY * i);
-        const char *why = fault(e, directory, end);
-        print_entry(out, i, e);
+        entry e = entry_at(file + directory, i);
+        const char *why = fault(e, directory, before.address + before.length);
         if (why != NULL) {
+            if (i > 0)
+                print_entry(out, i - 1, before);
+            print_entry(out, i, e);
             fprintf(out, "  this one breaks a rule: %s\n", why);
             return;
         }
-        end = e.address + e.length;
+        before = e;
     }
 }
 
@@ -96,16 +123,13 @@ void image_explain(FILE *out, const contents *file, uint8_t refusal)
     if (file->length < IMAGE_TRAILER || file->length > MOP_FILE_MOST)
         return;
     const uint8_t *trailer = file->bytes + file->length - IMAGE_TRAILER;
-    uint64_t directory = number(trailer, 4), count = number(trailer + 4, 2);
-    fprintf(out,
-        "its trailer says: file length %" PRIu64 ", zero field %" PRIu64 ", %" PRIu64
-        " regions, directory at byte %" PRIu64 "\n",
-        number(trailer + 12, 4), number(trailer + 6, 2), count, directory);
+    uint64_t directory = number(trailer, 4), count = number(trailer + 4, 4);
+    fprintf(out, "its trailer says: file length %" PRIu64 ", %" PRIu64 " regions, directory at byte %" PRIu64 "\n",
+        number(trailer + 12, 4), count, directory);
     if (refusal == MOP_REFUSED_FILE)
         fputs("it is no image file, or was cut short or added to\n", out);
     if (refusal == MOP_REFUSED_DIRECTORY)
-        fprintf(out, "with so many regions the directory would stand at byte %" PRId64 "\n",
-            (int64_t)file->length - IMAGE_TRAILER - (int64_t)(IMAGE_ENTRY * count));
+        explain_directory(out, file->length, directory, count);
     if (refusal == MOP_REFUSED_ENTRY || refusal == MOP_REFUSED_OVERLAP)
-        explain_entries(out, file, directory, count);
+        explain_entry(out, file->bytes, directory, count);
 }

@@ -7,13 +7,15 @@
 #include "files.h"
 #include "mop.h"
 
-/* The regions and the transfer address of an image that the library takes. */
-void image_list(FILE *out, const contents *file, mop_image image);
+/* The regions and the transfer address of an image that the library takes. Of more
+ * regions than most, an even number, the first half of so many and the last half. */
+void image_list(FILE *out, const contents *file, mop_image image, uint32_t most);
 
 /* The region of such an image that has this address, counted from 1 as in the list. */
 unsigned image_region(const contents *file, mop_image image, uint32_t address);
 
-/* What the trailer says, and for a wrong entry those up to it. */
+/* What the trailer says and what is wrong with it, or a wrong entry behind the one
+ * before it. */
 void image_explain(FILE *out, const contents *file, uint8_t refusal);
 
 #endif

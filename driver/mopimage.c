@@ -14,6 +14,8 @@
 #include "pieces.h"
 #include "words.h"
 
+#define LISTED 20 /* regions that are told of an image when it is made */
+
 enum { OPTION_AT = OPTION_OWN, OPTION_SREC, OPTION_IHEX, OPTION_TRANSFER, OPTION_LIST, OPTION_CHECK, OPTION_FORCE };
 
 typedef struct command {
@@ -39,7 +41,7 @@ static int show(const command *c)
         status = complain(STATUS_IMAGE, "%s is refused (%d): %s", c->show, image.refusal, refusal_words(image.refusal));
         image_explain(stdout, &file, image.refusal);
     } else if (c->list) {
-        image_list(stdout, &file, image);
+        image_list(stdout, &file, image, MOP_REGIONS_MOST);
     } else {
         printf("%s is a good image.\n", c->show);
     }
@@ -71,7 +73,7 @@ static int make(command *c)
     else
         status = output_write(&c->output, file.bytes, file.length);
     if (status == 0)
-        image_list(stdout, &file, image);
+        image_list(stdout, &file, image, LISTED);
     free(file.bytes);
     return status;
 }
@@ -91,7 +93,7 @@ static const char manual[] = "NAME\n"
                              "  Makes an image file from one or more inputs: the bytes of each with their\n"
                              "  addresses in the machine's memory, and the address where the machine is\n"
                              "  started. Inputs may come in any order and must not overlap; neighbours\n"
-                             "  become one region, and there may be 64 regions.\n"
+                             "  become one region, and there may be %d regions.\n"
                              "\n"
                              "OPTIONS\n"
                              "  -o IMAGE, --output IMAGE\n"
@@ -111,7 +113,7 @@ static const char manual[] = "NAME\n"
                              "        HEX file says, of which the last counts; raw bytes say nothing, so\n"
                              "        there it must be given.\n"
                              "  --list IMAGE\n"
-                             "        The regions and the transfer address.\n"
+                             "        All regions and the transfer address.\n"
                              "  --check IMAGE\n"
                              "        Whether the library takes the image, and if not why, in words.\n"
                              "  --help\n"
@@ -122,7 +124,7 @@ static const char manual[] = "NAME\n"
 
 static void help(void)
 {
-    fputs(manual, stdout);
+    printf(manual, MOP_REGIONS_MOST);
     words_statuses(stdout, STATUS_FINISHED, STATUS_OTHER);
     words_statuses(stdout, STATUS_USAGE, STATUS_USAGE);
     words_statuses(stdout, STATUS_IMAGE, STATUS_FILE);

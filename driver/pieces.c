@@ -106,7 +106,7 @@ int pieces_join(pieces *p)
     p->count = kept + 1;
     if (p->count > MOP_REGIONS_MOST)
         return complain(STATUS_IMAGE,
-            "there are %zu regions with gaps between, and an image holds %d: fill gaps with bytes", p->count,
+            "there are %zu regions with gaps between, and an image holds at most %d: fill gaps with bytes", p->count,
             MOP_REGIONS_MOST);
     return 0;
 }
@@ -132,8 +132,7 @@ int pieces_image(const pieces *p, contents *image)
         at = put(at, p->list[i].length, 4);
     }
     at = put(at, p->store.length, 4);
-    at = put(at, p->count, 2);
-    at = put(at, 0, 2);
+    at = put(at, p->count, 4);
     at = put(at, p->transfer, 4);
     put(at, image->length, 4);
     return 0;

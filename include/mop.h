@@ -165,8 +165,8 @@ enum mop_refusal {
                                   entry length or time field is outside its
                                   list */
     MOP_REFUSED_FILE = 5,      /* the file is under 16 or above 16,777,216
-                                  bytes, or its length field or zero field is
-                                  wrong ('The image file' has the fields) */
+                                  bytes, or its length field is wrong ('The
+                                  image file' has the fields) */
     MOP_REFUSED_DIRECTORY = 6, /* the entry count or the directory offset is
                                   wrong */
     MOP_REFUSED_ENTRY = 7,     /* a directory entry breaks its own rule */
@@ -214,7 +214,7 @@ enum mop_limit {
                                    its parameters counted */
     MOP_FILE_MOST = 16777216,   /* bytes of an image file; the least is 16 */
     MOP_MEMORY_MOST = 16777216, /* bytes of a machine's memory */
-    MOP_REGIONS_MOST = 64       /* regions of an image; the least is 1 */
+    MOP_REGIONS_MOST = 100000   /* regions of an image; the least is 1 */
 };
 
 /* The same on Ethernet, where the length in front of a message takes two bytes
@@ -478,8 +478,8 @@ mop_written mop_write_looped(uint16_t receipt, const uint8_t *data,
  *   directory + 12          12   the second's, and so on
  *   directory + 12 x count  16   the trailer, which ends the file
  *                                  4  directory  where that begins in the file
- *                                  2  count      the entries, 1 to 64
- *                                  2  zero       0
+ *                                  4  count      the entries, 1 to
+ *                                                MOP_REGIONS_MOST
  *                                  4  transfer   where the program starts
  *                                  4  length     the bytes of the whole file
  *
@@ -487,18 +487,20 @@ mop_written mop_write_looped(uint16_t receipt, const uint8_t *data,
  *
  *   0A 0B 0C                                  its bytes
  *   02 00 00 00  00 00 00 00  03 00 00 00     address 2, offset 0, length 3
- *   03 00 00 00  01 00  00 00                 directory 3, count 1, zero
+ *   03 00 00 00  01 00 00 00                  directory 3, count 1
  *   02 00 00 00  1F 00 00 00                  transfer 2, length 31
  *
  * Refused are, in this order,
  *   5  a file under 16 or above 16,777,216 bytes; a length that is not the
- *      file's; a zero that is not 0
- *   6  a count outside 1 to 64; directory + 12 x count + 16 that is not the
- *      file's length
+ *      file's
+ *   6  a count outside 1 to MOP_REGIONS_MOST; directory + 12 x count + 16 that
+ *      is not the file's length
  *   7  an entry with length 0, with offset + length above directory, or with
  *      address + length above 4,294,967,296
  *   8  an entry whose address is below the address + length of the one before
- * Both of an entry come before those of the next. Any transfer passes.
+ * Both of an entry come before those of the next. Any transfer passes. (The
+ * count's upper half had to be 0 once, and the count at most 64. Such a file
+ * reads as it did.)
  *
  * Segments: the regions in the directory's order, each cut into parts of
  * segment_size bytes, its last perhaps shorter. N is how many there are. They
@@ -511,7 +513,7 @@ mop_written mop_write_looped(uint16_t receipt, const uint8_t *data,
 typedef struct mop_image {
     uint64_t segments; /* N, how many of the given size there are */
     uint32_t transfer; /* transfer address */
-    uint16_t regions;  /* how many regions it has, 1 to 64 */
+    uint32_t regions;  /* how many regions it has */
     uint8_t refusal;   /* 0, or a refusal and then all else is 0 */
 } mop_image;
 
@@ -711,7 +713,7 @@ typedef struct mop_load_settings {
     uint8_t version;         /* MOP_VERSION_.. */
     uint8_t restart; /* 1 if the load begins again when the machine asks again
                         half-way, because it was reset; else 0. With 1 a load
-                        has at most 256 frames */
+                        has at most 256 frames, and so at most 256 regions */
 } mop_load_settings;
 
 /* What the frames came to that a load or a dump was handed: how noisy the line
@@ -759,6 +761,8 @@ mop_load mop_load_start(void);
  *          bytes.
  *   Out    the next record, and the length of the frame to send, 0 for none;
  *          that frame at the start of reply, the bytes behind it as they were.
+ *   Costs  at most one look at each directory entry: some 0.1 ms for the most
+ *          regions (docs/BENCHMARKS.md).
  *   Refuses, in this order:
  *          10 for a setting, for a record with a verdict above 4, repeats
  *             above the settings', waiting above 1, restarts above 65,535 or,

@@ -169,9 +169,9 @@ uint64_t hostile(void)
 {
     static const uint64_t edges[] = {0, 1, 2, 3, 4, 5, 127, 128, 255, 256, 1490,
         1491, 1493, 1494, 1495, 1496, 1497, 1498, 1500, 1501, 32768, 65535,
-        65536, 16777216, 16777217, UINT32_MAX / 2, UINT32_MAX / 2 + 1,
-        UINT32_MAX - 1, UINT32_MAX, UINT64_C(1) << 32, UINT64_MAX / 2,
-        UINT64_MAX / 2 + 1, UINT64_MAX - 1, UINT64_MAX};
+        65536, 100000, 100001, 16777216, 16777217, UINT32_MAX / 2,
+        UINT32_MAX / 2 + 1, UINT32_MAX - 1, UINT32_MAX, UINT64_C(1) << 32,
+        UINT64_MAX / 2, UINT64_MAX / 2 + 1, UINT64_MAX - 1, UINT64_MAX};
     const uint64_t edge = edges[below(sizeof edges / sizeof edges[0])];
     return once_in(4) ? random_any() : edge;
 }

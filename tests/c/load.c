@@ -8,6 +8,7 @@
 #include "tests.h"
 
 static lent record, file, parameters, frame, reply;
+static uint8_t image_bytes[IMAGE_MOST];
 
 static bool is_timer(const load_input *in)
 {
@@ -174,6 +175,18 @@ static void check_restart(
         "not begun again");
 }
 
+/* The frame in reply has this segment of the image. */
+static void check_segment(
+    const load_input *in, uint64_t index, const mop_fields *f)
+{
+    const mop_segment s = mop_image_segment(
+        in->file, in->file_length, in->settings.segment_size, index);
+    demand(f->address == s.address && f->data_length == s.length &&
+               memcmp(lent_bytes(&reply) + f->data_at, in->file + s.at,
+                   s.length) == 0,
+        "another segment");
+}
+
 /* The frame that stands in reply is the load's at this position. */
 static void check_frame(const load_input *in, uint64_t position, size_t length)
 {
@@ -194,6 +207,8 @@ static void check_frame(const load_input *in, uint64_t position, size_t length)
             f.data_length == in->parameters_length &&
                 memcmp(bytes + f.data_at, in->parameters, f.data_length) == 0,
             "another string");
+    else
+        check_segment(in, position, &f);
 }
 
 static void check_answer(
@@ -420,9 +435,9 @@ static void test_counts(load_input *in)
 
 void test_load(void)
 {
-    static load_input in;
+    static load_input in = {.file = image_bytes};
     record = lent_make(sizeof(mop_load));
-    file = lent_make(IMAGE_MOST);
+    file = lent_make(MANY_BYTES(MOP_REGIONS_MOST + 1));
     parameters = lent_make(2 * BEYOND);
     frame = lent_make(BEYOND);
     reply = lent_make(BEYOND);

@@ -11,7 +11,7 @@ typedef struct load_input {
     enum call call;
     mop_load_settings settings;
     mop_load session;
-    uint8_t file[IMAGE_MOST];
+    uint8_t *file;
     size_t file_length;
     uint8_t parameters[2 * BEYOND];
     size_t parameters_length;

@@ -25,6 +25,7 @@ int main(int argc, char **argv)
     test_load();
     test_strings();
     test_restarts();
+    test_many();
     test_dump();
     test_loop();
     return print_calls() ? 0 : 1;

@@ -45,6 +45,14 @@ void put32(uint8_t *to, uint64_t number)
         to[i] = (uint8_t)(number >> 8 * i);
 }
 
+uint32_t get32(const uint8_t *from)
+{
+    uint32_t number = 0;
+    for (int i = 3; i >= 0; i--)
+        number = number << 8 | from[i];
+    return number;
+}
+
 /* ---- Versions. */
 
 bool is_version(uint8_t version)
@@ -188,39 +196,59 @@ size_t any_frame(uint8_t to[BEYOND])
 
 /* ---- Image files: the regions' bytes, the directory, the trailer. */
 
+enum { SOME_HUNDRED = 400 };
+
+static void put_entry(
+    uint8_t *to, uint64_t address, size_t offset, size_t length)
+{
+    put32(to, address);
+    put32(to + 4, offset);
+    put32(to + 8, length);
+}
+
+/* The trailer of a file with so many bytes of regions: the file's length. */
+static size_t put_trailer(uint8_t *file, size_t bytes, size_t regions)
+{
+    const size_t at = bytes + 12 * regions;
+    put32(file + at, bytes);
+    put32(file + at + 4, regions);
+    put32(file + at + 8, random_any());
+    put32(file + at + 12, at + 16);
+    return at + 16;
+}
+
 size_t make_image(uint8_t to[IMAGE_MOST])
 {
-    const size_t regions = once_in(8) ? 1 + below(64) : 1 + below(3);
+    const size_t few = once_in(8) ? 64 : 3;
+    const size_t regions = 1 + below(once_in(16) ? SOME_HUNDRED : few);
     const size_t most = 2048 / regions;
-    uint8_t directory[64 * 12] = {0};
+    uint8_t directory[SOME_HUNDRED * 12] = {0};
     size_t bytes = 0;
     uint64_t address = once_in(4) ? UINT32_MAX - 200000 : below(300);
     for (size_t i = 0; i < regions; i++) {
         const size_t length = 1 + below(once_in(4) ? most : 8);
-        put32(directory + 12 * i, address);
-        put32(directory + 12 * i + 4, bytes);
-        put32(directory + 12 * i + 8, length);
+        put_entry(directory + 12 * i, address, bytes, length);
         address += length + (once_in(2) ? below(100) : 0);
         bytes += length;
     }
     random_bytes(to, bytes);
     memcpy(to + bytes, directory, 12 * regions);
-    uint8_t *trailer = to + bytes + 12 * regions;
-    put32(trailer, bytes);
-    put32(trailer + 4, regions);
-    put32(trailer + 8, random_any());
-    put32(trailer + 12, bytes + 12 * regions + 16);
-    return bytes + 12 * regions + 16;
+    return put_trailer(to, bytes, regions);
 }
 
 size_t make_one_region(uint8_t to[IMAGE_MOST], size_t bytes)
 {
     random_bytes(to, bytes);
-    const uint64_t rest[] = {
-        64, 0, bytes, bytes, 1, random_any(), bytes + 12 + 16};
-    for (size_t i = 0; i < sizeof rest / sizeof rest[0]; i++)
-        put32(to + bytes + 4 * i, rest[i]);
-    return bytes + 12 + 16;
+    put_entry(to + bytes, 64, 0, bytes);
+    return put_trailer(to, bytes, 1);
+}
+
+size_t make_many(uint8_t *to, size_t regions)
+{
+    random_bytes(to, regions);
+    for (size_t i = 0; i < regions; i++)
+        put_entry(to + regions + 12 * i, 3 * i, i, 1);
+    return put_trailer(to, regions, regions);
 }
 
 size_t any_image(uint8_t to[IMAGE_MOST])
@@ -229,7 +257,7 @@ size_t any_image(uint8_t to[IMAGE_MOST])
     if (once_in(2))
         return length;
     if (once_in(2)) { /* a number of the directory or the trailer */
-        const size_t places = to[length - 12] * 3U + 4;
+        const size_t places = (length - get32(to + length - 16)) / 4;
         put32(to + length - 4 * (1 + below(places)), hostile());
     }
     if (once_in(4))

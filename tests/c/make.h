@@ -7,8 +7,11 @@
 #include <stddef.h>
 #include <stdint.h>
 
-/* Beyond the longest frame, and the longest file that is made here. */
-enum { BEYOND = 1600, IMAGE_MOST = 4096 };
+/* Beyond the longest frame, and the longest file of some hundred regions. */
+enum { BEYOND = 1600, IMAGE_MOST = 8192 };
+
+/* The bytes of a file that make_many makes. */
+#define MANY_BYTES(regions) (13 * (size_t)(regions) + 16)
 
 /* The listed codes, and the least length of a code's frame, 0 if not listed. */
 enum { CODES = 12 };
@@ -39,13 +42,17 @@ size_t make_entries(uint8_t *to, size_t most);
 size_t make_frame(uint8_t code, uint8_t to[BEYOND]);
 size_t any_frame(uint8_t to[BEYOND]);
 
-/* A good image file, one of a single region of so many bytes, and any file,
- * often a damaged one. */
+/* A good image file, any file, often a damaged one, and one of a single region
+ * of so many bytes. */
 size_t make_image(uint8_t to[IMAGE_MOST]);
-size_t make_one_region(uint8_t to[IMAGE_MOST], size_t bytes);
 size_t any_image(uint8_t to[IMAGE_MOST]);
+size_t make_one_region(uint8_t to[IMAGE_MOST], size_t bytes);
+/* One of so many regions of a byte each: region i is byte i of the file and has
+ * the address 3 x i. */
+size_t make_many(uint8_t *to, size_t regions);
 
 /* Numbers low byte first. */
 void put32(uint8_t *to, uint64_t number);
+uint32_t get32(const uint8_t *from);
 
 #endif

@@ -79,6 +79,7 @@ static int refusal_of(size_t length)
 
 static void test_images(void)
 {
+    enum { MANY = 12 * (MOP_REGIONS_MOST + 1) + 100 };
     make_image(100, 2);
     demand(refusal_of(100) == MOP_ACCEPTED, "an image");
     demand(refusal_of(99) == MOP_REFUSED_FILE, "a file");
@@ -88,10 +89,10 @@ static void test_images(void)
     demand(refusal_of(100) == MOP_REFUSED_ENTRY, "an entry");
     put(large + 100 - 12, 1);
     demand(refusal_of(100) == MOP_REFUSED_DIRECTORY, "a directory");
-    make_image(1000, MOP_REGIONS_MOST);
-    demand(refusal_of(1000) == MOP_ACCEPTED, "the most regions");
-    make_image(1000, MOP_REGIONS_MOST + 1);
-    demand(refusal_of(1000) == MOP_REFUSED_DIRECTORY, "more regions");
+    make_image(MANY, MOP_REGIONS_MOST);
+    demand(refusal_of(MANY) == MOP_ACCEPTED, "the most regions");
+    make_image(MANY, MOP_REGIONS_MOST + 1);
+    demand(refusal_of(MANY) == MOP_REFUSED_DIRECTORY, "more regions");
     make_image(MOP_FILE_MOST, 1);
     demand(refusal_of(MOP_FILE_MOST) == MOP_ACCEPTED, "the longest file");
     make_image(MOP_FILE_MOST + 1, 1);

@@ -5,7 +5,8 @@
 #include "make.h"
 #include "tests.h"
 
-static load_input in;
+static uint8_t image[IMAGE_MOST];
+static load_input in = {.file = image};
 
 /* A load of n segments that may begin again, without repeats, at a position. */
 static void give(size_t n, uint8_t with, uint64_t position)

@@ -7,7 +7,8 @@
 #include "make.h"
 #include "tests.h"
 
-static load_input in;
+static uint8_t image[IMAGE_MOST];
+static load_input in = {.file = image};
 static uint8_t version; /* of the loads that follow */
 
 /* A load that is under way, and ends with a string of these entries. */

@@ -16,6 +16,7 @@ void test_blocks(void);  /* as well */
 void test_load(void);
 void test_strings(void);  /* after test_load, whose buffers it uses */
 void test_restarts(void); /* as well */
+void test_many(void);     /* as well */
 void test_dump(void);
 void test_loop(void);
 

@@ -3,6 +3,7 @@
  * list. */
 #include <string.h>
 
+#include "make.h"
 #include "mop.h"
 
 #define WRAP(name) __wrap_##name
@@ -44,7 +45,13 @@ mop_written REAL(mop_dump_update_timer)(
 mop_written WRAP(mop_dump_update_timer)(
     mop_dump_settings, mop_dump *, const uint8_t *, size_t, uint8_t *, size_t);
 
-/* A call of the machine, and the library's own in its place. */
+/* The check of an image, and the library's own in its place. */
+#define WRONG_IMAGE                                                            \
+    mop_image WRAP(mop_image_check)(                                           \
+        const uint8_t *file, size_t length, uint32_t segment_size)
+#define REAL_IMAGE REAL(mop_image_check)(file, length, segment_size)
+
+/* The same of the machine. */
 #define WRONG_FRAME                                                            \
     mop_machine_step WRAP(mop_machine_frame)(mop_machine_settings settings,    \
         mop_machine machine, const uint8_t *frame, size_t length,              \
@@ -159,6 +166,29 @@ static inline uint64_t frames(
 }
 #endif
 
+#if WRONG >= 81
+/* The count of a file that has a trailer with its length; 0 for another. */
+static inline uint32_t count_said(const uint8_t *file, size_t length)
+{
+    return length >= 16 && length <= MOP_FILE_MOST &&
+                   get32(file + length - 4) == length
+               ? get32(file + length - 12)
+               : 0;
+}
+
+/* The file, but with the lower half alone of a count that has an upper. */
+static inline const uint8_t *with_lower_half(const uint8_t *file, size_t length)
+{
+    static uint8_t copy[MOP_FILE_MOST];
+    const uint32_t count = count_said(file, length);
+    if (count <= UINT16_MAX)
+        return file;
+    memcpy(copy, file, length);
+    put32(copy + length - 12, count & UINT16_MAX);
+    return copy;
+}
+#endif
+
 #if WRONG == 1 /* looks at the byte behind the frame */
 mop_fields WRAP(mop_read)(uint8_t version, const uint8_t *frame, size_t length)
 {
@@ -205,10 +235,10 @@ mop_written WRAP(mop_write_loop)(uint16_t receipt, const uint8_t *data,
     return REAL(mop_write_loop)(receipt, data, length, out, room);
 }
 #elif WRONG == 7  /* looks at an empty file */
-mop_image WRAP(mop_image_check)(const uint8_t *file, size_t length, uint32_t s)
+WRONG_IMAGE
 {
     (void)*(volatile const uint8_t *)file;
-    return REAL(mop_image_check)(file, length, s);
+    return REAL_IMAGE;
 }
 #elif WRONG == 8  /* changes memory and refuses */
 WRONG_FRAME
@@ -826,5 +856,63 @@ WRONG_LOAD_TIMER
         step = (mop_load_step){
             .session = session, .answer = {.refusal = MOP_REFUSED_RANGE}};
     return step;
+}
+#elif WRONG == 81 /* ignores the upper half of the count */
+WRONG_IMAGE
+{
+    file = with_lower_half(file, length);
+    return REAL_IMAGE;
+}
+#elif WRONG == 82 /* takes 100,001 regions */
+WRONG_IMAGE
+{
+    const mop_image image = REAL_IMAGE;
+    const uint32_t count = count_said(file, length);
+    if (count != MOP_REGIONS_MOST + 1 || length < MANY_BYTES(count))
+        return image;
+    return (mop_image){.segments = count,
+        .transfer = get32(file + length - 8),
+        .regions = count};
+}
+#elif WRONG == 83 /* refuses 100,000 regions */
+WRONG_IMAGE
+{
+    const mop_image image = REAL_IMAGE;
+    return image.regions == MOP_REGIONS_MOST
+               ? (mop_image){.refusal = MOP_REFUSED_DIRECTORY}
+               : image;
+}
+#elif WRONG == 84 /* walks a directory whose place is right in 32 bits alone */
+WRONG_IMAGE
+{
+    const uint32_t count = count_said(file, length);
+    const uint32_t at = count > 0 ? get32(file + length - 16) : 0;
+    for (size_t i = 0; at + 12 * count + 16 == length && i < count; i++)
+        (void)*(volatile const uint8_t *)(file + at + 12 * i + 11);
+    return REAL_IMAGE;
+}
+#elif WRONG == 85 /* answers the lower half of the number of regions */
+WRONG_IMAGE
+{
+    mop_image image = REAL_IMAGE;
+    image.regions &= UINT16_MAX;
+    return image;
+}
+#elif WRONG == 86 /* ignores the upper half of the count in a step */
+WRONG_LOAD_TIMER
+{
+    file = with_lower_half(file, size);
+    return REAL_LOAD_TIMER;
+}
+#elif WRONG == 87 /* sends the segment of the position modulo 65,536 */
+WRONG_LOAD_FRAME
+{
+    const mop_written answer = REAL_LOAD_FRAME;
+    const uint64_t index = session->position & UINT16_MAX;
+    if (answer.length > 0 && index < session->position)
+        put32(reply + 2,
+            mop_image_segment(file, size, settings.segment_size, index)
+                .address);
+    return answer;
 }
 #endif

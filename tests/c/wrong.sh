@@ -17,7 +17,8 @@ wrong=(mop_read mop_read mop_read mop_write_loop mop_write_loop mop_write_loop m
     mop_dump_update_timer mop_dump_update_timer mop_dump_update_timer
     mop_load_update_frame mop_load_update_frame mop_load_update_frame mop_load_update_frame mop_load_update_frame
     mop_load_update_frame mop_load_update_frame mop_load_update_frame mop_load_timer mop_load_timer mop_load_timer
-    mop_load_timer mop_load_timer mop_load_timer mop_load_timer mop_load_timer mop_load_timer)
+    mop_load_timer mop_load_timer mop_load_timer mop_load_timer mop_load_timer mop_load_timer
+    mop_image_check mop_image_check mop_image_check mop_image_check mop_image_check mop_load_timer mop_load_update_frame)
 found=0
 for i in "${!wrong[@]}"; do
     n=$((i + 1)) call=${wrong[$i]}

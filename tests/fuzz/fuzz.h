@@ -14,6 +14,7 @@
 bool fuzz_srec(void);
 bool fuzz_ihex(void);
 bool fuzz_image(void);
+bool fuzz_many(void);
 bool fuzz_raw(void);
 bool fuzz_load(void);
 bool fuzz_dump(void);
@@ -64,6 +65,9 @@ void mutate(const char *letters);
 
 /* A copy that ends where its memory ends, so that a step beyond is seen. The caller frees bytes. */
 contents exact(void);
+
+/* What must hold of an image file, good or bad: whether it is accepted. */
+bool image_check(const contents *file);
 
 /* ---- The line, without an interface ---------------------------------- */
 

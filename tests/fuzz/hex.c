@@ -95,8 +95,8 @@ static uint64_t onward(uint64_t address, bool gaps)
 static void srec_input(style s)
 {
     uint64_t address = any_number();
-    bool gaps = one_in(50);
-    unsigned records = gaps ? 60 + below(10) : below(9), width = 1 + below(3);
+    bool gaps = one_in(100);
+    unsigned records = gaps ? 250 + below(12) : below(9), width = 1 + below(3);
     if (one_in(2))
         put_srec(s, 0, 0, below(9));
     for (unsigned i = 0; i < records; i++) {
@@ -126,8 +126,8 @@ static void put_ihex_address(style s)
 static void ihex_input(style s)
 {
     uint64_t offset = any_number() & 0xFFFF;
-    bool gaps = one_in(50);
-    for (unsigned i = gaps ? 60 + below(10) : below(9); i > 0; i--) {
+    bool gaps = one_in(100);
+    for (unsigned i = gaps ? 250 + below(12) : below(9); i > 0; i--) {
         size_t length = gaps ? 1 : any_length();
         put_ihex(s, 0, offset, NULL, length);
         offset = onward(offset + length, gaps) & 0xFFFF;

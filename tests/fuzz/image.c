@@ -10,7 +10,8 @@
 /* Regions of up to 20 bytes with gaps between; their bytes may be shared. */
 static void make_image(void)
 {
-    uint32_t count = one_in(20) ? 60 + below(8) : 1 + below(5), stored = 20 + below(40);
+    static const uint32_t wrong[] = {1, 1U << 16, 1U << 24, 1U << 30}; /* 12 times the last is 0 in 32 bits */
+    uint32_t count = one_in(20) ? 250 + below(12) : 1 + below(5), stored = 20 + below(40);
     uint64_t address = any_number();
     for (uint32_t i = 0; i < stored; i++)
         put_byte((uint8_t)below(256));
@@ -22,8 +23,7 @@ static void make_image(void)
         address += length + (one_in(3) ? 0 : below(40)) - one_in(60);
     }
     put_low_first(stored, 4);
-    put_low_first(count, 2);
-    put_low_first(one_in(40), 2);
+    put_low_first(count + (one_in(40) ? wrong[below(4)] : 0), 4);
     put_low_first(any_number(), 4);
     put_low_first((uint32_t)input.length + 4, 4);
 }
@@ -52,32 +52,77 @@ static size_t lines(const char *text)
     return count;
 }
 
-/* What is printed of it, the wrong entry last. */
+/* Whether the text has a line on this region, counted from 1. */
+static bool tells_region(const char *text, size_t number)
+{
+    char first[32];
+    snprintf(first, sizeof first, "region %zu: ", number);
+    const char *at = strstr(text, first);
+    return at != NULL && (at == text || at[-1] == '\n');
+}
+
+/* Every region, or the first and the last ones. */
+static void check_list(const char *text, size_t regions, size_t most)
+{
+    require(lines(text) == (regions > most ? most + 1 : regions) + 2, "as many regions are listed as should be");
+    require(most == 0 || (tells_region(text, 1) && tells_region(text, regions)), "the first and the last are listed");
+}
+
+/* Which rule it is that a directory breaks; the wrong entry behind the one before. */
+static void check_explained(const char *text, const contents *file, uint8_t refusal, size_t wrong)
+{
+    bool entry = refusal == MOP_REFUSED_ENTRY || refusal == MOP_REFUSED_OVERLAP;
+    require((strstr(text, "breaks a rule") != NULL) == entry, "an entry that is refused is told");
+    require(!entry || (lines(text) == 4 + (wrong > 0) && tells_region(text, wrong + 1)), "it is the right one");
+    if (refusal != MOP_REFUSED_DIRECTORY)
+        return;
+    uint64_t count = slow_count(file->bytes, file->length);
+    bool elsewhere = !slow_placed(file->bytes, file->length);
+    require((strstr(text, "holds at most") != NULL) == (count > MOP_REGIONS_MOST), "that regions are too many is told");
+    require((strstr(text, "at least one") != NULL) == (count == 0), "that there are none is told");
+    require((strstr(text, "with so many regions") != NULL) == elsewhere, "a directory that stands elsewhere is told");
+}
+
+/* What is printed of it. */
 static void check_words(const contents *file, mop_image image, size_t wrong)
 {
     char *text = NULL;
     size_t size = 0;
+    uint32_t most = one_in(2) ? MOP_REGIONS_MOST : 2 * below(20);
     FILE *out = open_memstream(&text, &size);
     require(out != NULL, "there is memory");
     if (image.refusal == MOP_ACCEPTED)
-        image_list(out, file, image);
+        image_list(out, file, image, most);
     else
         image_explain(out, file, image.refusal);
     require(fclose(out) == 0 && text != NULL, "there is memory");
-    bool entry = image.refusal == MOP_REFUSED_ENTRY || image.refusal == MOP_REFUSED_OVERLAP;
-    require((strstr(text, "breaks a rule") != NULL) == entry, "an entry that is refused is told");
-    require(!entry || lines(text) == 2 + wrong + 2, "the entry that is refused is the last that is told");
-    require(image.refusal != MOP_ACCEPTED || lines(text) == (size_t)image.regions + 2, "every region is listed");
+    if (image.refusal == MOP_ACCEPTED)
+        check_list(text, image.regions, most);
+    else
+        check_explained(text, file, image.refusal, wrong);
     free(text);
 }
 
 /* The region that is told of a segment. */
-static void check_region(const contents *file, mop_image image, uint32_t size)
+static void check_region(const contents *file, mop_segment segment, mop_image image)
 {
-    uint64_t index = below((uint32_t)image.segments);
-    mop_segment segment = mop_image_segment(file->bytes, file->length, size, index);
     require(image_region(file, image, segment.address) == slow_region(file->bytes, file->length, segment.address),
         "a segment's region is the one that has its address");
+}
+
+bool image_check(const contents *file)
+{
+    size_t entry = 0;
+    uint32_t size = 1 + below(one_in(2) ? 8 : MOP_SEGMENT_MOST);
+    mop_image image = mop_image_check(file->bytes, file->length, size);
+    require(image.refusal == slow_image(file->bytes, file->length, &entry), "the refusal is the slow reader's");
+    check_words(file, image, entry);
+    if (image.refusal != MOP_ACCEPTED)
+        return false;
+    uint64_t any = below((uint32_t)image.segments), last = image.segments - 1;
+    check_region(file, mop_image_segment(file->bytes, file->length, size, any), image);
+    check_region(file, mop_image_segment(file->bytes, file->length, size, last), image);
+    return true;
 }
 
 bool fuzz_image(void)
@@ -90,13 +135,7 @@ bool fuzz_image(void)
     if (one_in(2))
         mend_length();
     contents file = exact();
-    size_t entry = 0;
-    uint32_t size = 1 + below(one_in(2) ? 8 : MOP_SEGMENT_MOST);
-    mop_image image = mop_image_check(file.bytes, file.length, size);
-    require(image.refusal == slow_image(file.bytes, file.length, &entry), "the refusal is the slow reader's");
-    check_words(&file, image, entry);
-    if (image.refusal == MOP_ACCEPTED)
-        check_region(&file, image, size);
+    bool accepted = image_check(&file);
     free(file.bytes);
-    return image.refusal == MOP_ACCEPTED;
+    return accepted;
 }

@@ -26,6 +26,7 @@ static const kind kinds[] = {
     {"names", "accepted", fuzz_name, 1},
     {"addresses", "accepted", fuzz_address, 1},
     {"times", "accepted", fuzz_time, 1},
+    {"images of many regions", "accepted", fuzz_many, 4000},
 };
 
 static const kind *now;
@@ -80,7 +81,7 @@ bool one_in(uint32_t n)
 
 uint32_t any_number(void)
 {
-    static const uint32_t bounds[] = {0, 16, 64, 256, 0x200, 0x10000, 0x100000, 0x1000000, 0x80000000};
+    static const uint32_t bounds[] = {0, 16, 64, 256, 0x200, 0x10000, 100000, 0x100000, 0x1000000, 0x80000000};
     if (one_in(3))
         return (uint32_t)next();
     return bounds[below(sizeof bounds / sizeof bounds[0])] + below(9) - 4;

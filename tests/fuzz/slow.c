@@ -167,16 +167,26 @@ static uint64_t low_first(const uint8_t *at, int count)
     return number;
 }
 
+uint64_t slow_count(const uint8_t *file, size_t length)
+{
+    return low_first(file + length - 12, 4);
+}
+
+bool slow_placed(const uint8_t *file, size_t length)
+{
+    return low_first(file + length - 16, 4) + 12 * slow_count(file, length) + 16 == length;
+}
+
 int slow_image(const uint8_t *file, size_t length, size_t *entry)
 {
     uint64_t end = 0;
     if (length < 16 || length > 16777216)
         return 5;
     const uint8_t *trailer = file + length - 16;
-    if (low_first(trailer + 12, 4) != length || low_first(trailer + 6, 2) != 0)
+    if (low_first(trailer + 12, 4) != length)
         return 5;
-    uint64_t directory = low_first(trailer, 4), count = low_first(trailer + 4, 2);
-    if (count < 1 || count > 64 || directory + 12 * count + 16 != length)
+    uint64_t directory = low_first(trailer, 4), count = slow_count(file, length);
+    if (count < 1 || count > 100000 || !slow_placed(file, length))
         return 6;
     for (*entry = 0; *entry < count; *entry += 1) {
         const uint8_t *at = file + directory + 12 * *entry;

@@ -28,6 +28,11 @@ typedef struct slow {
 
 void slow_text(slow *s, const uint8_t *text, size_t length, bool motorola);
 
+/* How many regions the trailer of an image file says, and whether their directory ends where the trailer begins; in a file of
+ * 16 bytes or more. */
+uint64_t slow_count(const uint8_t *file, size_t length);
+bool slow_placed(const uint8_t *file, size_t length);
+
 /* The refusal of an image file: 0 for none, else 5 to 8, for 7 and 8 with the entry, counted from 0. */
 int slow_image(const uint8_t *file, size_t length, size_t *entry);
 

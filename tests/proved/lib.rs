@@ -54,7 +54,7 @@ pub struct Written {
 pub struct Image {
     pub segments: u64,
     pub transfer: u32,
-    pub regions: u16,
+    pub regions: u32,
     pub refusal: u8,
 }
 

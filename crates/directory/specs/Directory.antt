@@ -13,14 +13,17 @@ use Rattle.directory.specs.declared.Region.{Region}
 abbrev pub addresses : ℕ
 addresses = 4294967296
 
+-- the most entries of a directory
+abbrev pub mostEntries : ℕ
+mostEntries = 100000
+
 -- ---- fields
--- directory offset 4, entry count 2, zero 2, transfer address 4, file length 4
+-- directory offset 4, entry count 4, transfer address 4, file length 4
 unfoldable pub trailerOf : List ℕ → Trailer
 trailerOf s =
     record {
       directory = word 4 s 0;
-      count = word 2 s 4;
-      zero = word 2 s 6;
+      count = word 4 s 4;
       transfer = word 4 s 8;
       length = word 4 s 12;
     }
@@ -68,16 +71,15 @@ demand false n next = n
 abbrev pub first : ℕ → ℕ → ℕ
 first n next = demand (eqb n 0) n next
 
--- 5 and 6, of a file of n bytes with this trailer; a file has at most 16,777,216 bytes, and a directory at most 64 entries
+-- 5 and 6, of a file of n bytes with this trailer; a file has at most 16,777,216 bytes
 abbrev pub trailerRefusal : ℕ → Trailer → ℕ
 trailerRefusal n t =
     demand (leb 16 n) 5
     (demand (leb n 16777216) 5
     (demand (eqb (t .length) n) 5
-    (demand (eqb (t .zero) 0) 5
     (demand (leb 1 (t .count)) 6
-    (demand (leb (t .count) 64) 6
-    (demand (eqb (t .directory + 12 * t .count + 16) n) 6 0))))))
+    (demand (leb (t .count) mostEntries) 6
+    (demand (eqb (t .directory + 12 * t .count + 16) n) 6 0)))))
 
 -- 7 and 8, of an entry, with the directory's start and the end of the region before
 abbrev pub entryRefusal : ℕ → ℕ → Region → ℕ

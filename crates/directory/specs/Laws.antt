@@ -5,12 +5,12 @@ use mathlib.Core.Path.{_≡_, refl, ap}
 use mathlib.Core.List.{List, [], _∷_}
 use native.Mathlib.Omega.{arith}
 use lib.Dec.{eqb}
-use lib.ListN.{length, getD, take, drop, length-take, length-drop}
+use lib.ListN.{length, getD}
 use lib.Seq.{drop-drop}
 use borrow.Author.Tests.{leb-true, eqb-true, eqb-false}
 use Rattle.octets.specs.Number.{Octets}
 use Rattle.octets.specs.NumberLaws.{part-bound}
-use Rattle.directory.specs.Directory.{addresses, trailerOf, trailer, entryAt, entries, ending, bytes, nowhere}
+use Rattle.directory.specs.Directory.{addresses, mostEntries, trailerOf, trailer, entryAt, entries, ending, bytes, nowhere}
 use Rattle.directory.specs.Directory.{demand, first, trailerRefusal, entryRefusal, entriesRefusal}
 use Rattle.directory.specs.declared.Trailer.{Trailer}
 use Rattle.directory.specs.declared.Region.{Region}
@@ -95,7 +95,7 @@ pub record Placed (n : ℕ) (t : Trailer) : Type 0 where
   pub long : 16 ≤ n
   pub short : n ≤ 16777216
   pub some : 1 ≤ t .count
-  pub few : t .count ≤ 64
+  pub few : t .count ≤ mostEntries
   pub placed : t .directory + 12 * t .count + 16 ≡ n
 
 pub placed : (n : ℕ) (t : Trailer) → trailerRefusal n t ≡ 0 → Placed n t
@@ -106,13 +106,12 @@ placed n t h =
     let d = met _ _ _ (c .1) (omega arith) in
     let e = met _ _ _ (d .1) (omega arith) in
     let f = met _ _ _ (e .1) (omega arith) in
-    let g = met _ _ _ (f .1) (omega arith) in
     record {
       long = leb-true _ _ (a .0);
       short = leb-true _ _ (b .0);
-      some = leb-true _ _ (e .0);
-      few = leb-true _ _ (f .0);
-      placed = eqb-true _ _ (g .0);
+      some = leb-true _ _ (d .0);
+      few = leb-true _ _ (e .0);
+      placed = eqb-true _ _ (f .0);
     }
 
 -- ---- a file of bytes

@@ -6,7 +6,7 @@ ghost use Rattle.directory.specs.Directory.{trailerOf, trailer, trailerR
 const LONGEST: usize = 16777216;
 
 // The most entries of a directory.
-const MOST: u16 = 64;
+const MOST: u32 = 100000;
 
 // The number of addresses.
 pub const ADDRESSES: u64 = 4294967296;
@@ -14,8 +14,7 @@ pub const ADDRESSES: u64 = 4294967296;
 // The trailer's fields.
 pub struct Trailer {
     pub directory: u32,
-    pub count: u16,
-    pub zero: u16,
+    pub count: u32,
     pub transfer: u32,
     pub length: u32,
 }
@@ -32,8 +31,7 @@ fn fields(t: &[u8]) -> Trailer
 {
     Trailer {
         directory: octets::word32(t, 0),
-        count: octets::word16(t, 4),
-        zero: octets::word16(t, 6),
+        count: octets::word32(t, 4),
         transfer: octets::word32(t, 8),
         length: octets::word32(t, 12),
     }
@@ -65,9 +63,6 @@ pub fn trailer_refusal(n: usize, t: Trailer) -> u8
     }
     if length != n {
         return 5; // length field
-    }
-    if t.zero != 0 {
-        return 5; // zero field
     }
     if t.count < 1 {
         return 6; // no entries

@@ -15,7 +15,7 @@ pub const WIDEST: u32 = 1490;
 // segment looked for.
 pub struct Tally {
     pub refusal: u8,
-    pub regions: u16,
+    pub regions: u32,
     pub transfer: u32,
     pub segments: u64,
     pub segment: Region,
@@ -120,8 +120,8 @@ fn walk(file: &[u8], t: Trailer, size: u32, index: u64) -> Tally
     let mut segments: u64 = 0;
     let mut end: u64 = 0;
     let mut at = t.directory as usize;
-    let mut left = t.count;
-    while 0 < left {
+    let stop = at + 12 * (t.count as usize);
+    while at < stop {
         let r = read_entry(file, at);
         let wrong = directory::entry_refusal(t.directory, end, r);
         if wrong != 0 {
@@ -131,7 +131,6 @@ fn walk(file: &[u8], t: Trailer, size: u32, index: u64) -> Tally
         segments += parts(size, r) as u64;
         end = r.address as u64 + r.length as u64;
         at += 12;
-        left -= 1;
     }
     Tally {
         refusal: 0,

@@ -25,6 +25,7 @@ use Rattle.load_record.specs.Record as load-record
 use Rattle.load_next.specs.Next as next
 use Rattle.load_timer.specs.Timer as load-timer
 use Rattle.load_checks.specs.Checks as load-checks
+use Rattle.load_valid.specs.Valid as load-valid
 use Rattle.load_checks.specs.Laws.{accepted}
 use Rattle.load.specs.Load as load
 use Rattle.link.specs.Link.{Frame, Turn, refuses, acts, turned, queued, hearing}
@@ -100,7 +101,7 @@ module _ (s : Settings) (file string : List ℕ) where
   N = load-checks.frames s file
 
   abbrev pub E : ℕ
-  E = load-checks.restartsAllowed s
+  E = load-valid.restartsAllowed s
 
   abbrev pub F : ℕ → Frame
   F i = layout (load.frameMessage s file string i)

@@ -21,7 +21,8 @@ use Rattle.load_record.specs.declared.Session.{Session}
 use Rattle.load_record.specs.declared.Settings.{Settings as LoadSettings}
 use Rattle.load_record.specs.Record.{fresh}
 use Rattle.load_checks.specs.Checks as checks
-use Rattle.load_checks.specs.Checks.{frames, restartsAllowed, stringRefusal}
+use Rattle.load_checks.specs.Checks.{frames, stringRefusal}
+use Rattle.load_valid.specs.Valid.{restartsAllowed}
 use Rattle.load_checks.specs.Laws.{string-whole}
 use Rattle.link.specs.Link.{World, Ends, Event, Left, left, lastLeft}
 use Rattle.link.specs.LinkLaws.{Closed, closed-given, always, always-left}

@@ -36,6 +36,7 @@ use Rattle.load_record.specs.Record.{tallied}
 use Rattle.load_next.specs.Next as next
 use Rattle.load_timer.specs.Timer as load-timer
 use Rattle.load_checks.specs.Checks as load-checks
+use Rattle.load_valid.specs.Valid as load-valid
 use Rattle.load_checks.specs.Laws.{string-whole}
 use Rattle.load.specs.Load as load
 use Rattle.link.specs.Link.{Frame, World, Left}
@@ -53,18 +54,18 @@ use Rattle.link_load.specs.SenderLaws.{sending, Misses}
 use Rattle.link_load.specs.KeptLaws.{fr, Kept}
 
 -- ---- the host's record alone: one with good numbers, and counts below their top that say what they should, is none of those that are bad
-module _ (s : LoadSettings) (N : ℕ) (h : Session) (g : Good N (s .repeats) (load-checks.restartsAllowed s) h) (k : Counting h) (t : sum (h .counts) < top) where
-  sound : load-checks.sound s h ≡ true
-  sound = rw (le-leb (h .verdict) 4 (g .verdict), le-leb (h .repeats) (s .repeats) (g .repeats), le-leb (h .restarts) (load-checks.restartsAllowed s) (g .restarts), le-leb (h .waiting) 1 (g .flag), sum-below (h .counts) t, blank)
+module _ (s : LoadSettings) (N : ℕ) (h : Session) (g : Good N (s .repeats) (load-valid.restartsAllowed s) h) (k : Counting h) (t : sum (h .counts) < top) where
+  sound : load-valid.sound s h ≡ true
+  sound = rw (le-leb (h .verdict) 4 (g .verdict), le-leb (h .repeats) (s .repeats) (g .repeats), le-leb (h .restarts) (load-valid.restartsAllowed s) (g .restarts), le-leb (h .waiting) 1 (g .flag), sum-below (h .counts) t, blank)
     where
-      blank : pick (eqb (h .waiting) 1) (load-checks.blank h) true ≡ true
+      blank : pick (eqb (h .waiting) 1) (load-valid.blank h) true ≡ true
       blank =
           by-cases (λ (b : Bool). b ≡ true) (eqb (h .waiting) 1)
           (λ w. let z = g .waiting (eqb-true _ _ w) in
           rw (eq-eqb _ _ (z .0), eq-eqb _ _ (z .1), eq-eqb _ _ (z .2), eq-eqb _ _ (z .3), eq-eqb _ _ (z .4), only-ignored k (eqb-true _ _ w) (z .4) (z .0) (omega arith))) (λ _. refl)
 
   consistent : load-checks.consistent N s h ≡ true
-  consistent = rw (le-leb (h .position) N reaches, le-leb (h .sent) (load-checks.mostSent (h .restarts) N (s .repeats)) (bound N (s .repeats) (load-checks.restartsAllowed s) h g), placed)
+  consistent = rw (le-leb (h .position) N reaches, le-leb (h .sent) (load-checks.mostSent (h .restarts) N (s .repeats)) (bound N (s .repeats) (load-valid.restartsAllowed s) h g), placed)
     where
       reaches : h .position ≤ N
       reaches = at (eqb (h .verdict) 1) refl
@@ -81,7 +82,7 @@ module _ (s : LoadSettings) (N : ℕ) (h : Session) (g : Good N (s .repeats) (lo
 -- so with a reply buffer of 1,500 bytes no call is refused but for its frame
 not-refused : (s : LoadSettings) (file string : List ℕ) (h : Session) (reply : List ℕ) → cutRefusal file (s .«segment_size») ≡ 0
     → load-checks.stringRefusal s string ≡ 0 → load-checks.few s (load-checks.frames s file) ≡ true → s .repeats ≤ 255 → s .«with_parameters» ≤ 1 → s .restart ≤ 1
-    → known (s .version) ≡ true → Good (load-checks.frames s file) (s .repeats) (load-checks.restartsAllowed s) h → Counting h → sum (h .counts) < top → 1500 ≤ length reply → load-checks.refusal s h file string reply ≡ 0
+    → known (s .version) ≡ true → Good (load-checks.frames s file) (s .repeats) (load-valid.restartsAllowed s) h → Counting h → sum (h .counts) < top → 1500 ≤ length reply → load-checks.refusal s h file string reply ≡ 0
 unfolding first demand
 not-refused s file string h reply ok good small few mark restart version g k t l =
     let r = ready file (s .«segment_size») ok in
@@ -137,7 +138,7 @@ module _
   said-read (suc k) = rw (request-load-fields (s .version) (after-number (k % 256)) (pick (t .fit k) 0 1))
 
   abbrev E : ℕ
-  E = load-checks.restartsAllowed s
+  E = load-valid.restartsAllowed s
 
   host-read : (f : Frame) (q : List Frame) → w .toHost ≡ f ∷ q → fields (s .version) f .refusal ≡ 0
   host-read f q e =

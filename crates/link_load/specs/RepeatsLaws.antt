@@ -22,7 +22,8 @@ use Rattle.load_record.specs.declared.Settings.{Settings as LoadSettings}
 use Rattle.load_record.specs.Record.{tallied, more}
 use Rattle.load_next.specs.Next.{react}
 use Rattle.load_timer.specs.Timer.{onTimer}
-use Rattle.load_checks.specs.Checks.{frames, restartsAllowed, mostSent, refusal}
+use Rattle.load_checks.specs.Checks.{frames, mostSent, refusal}
+use Rattle.load_valid.specs.Valid.{restartsAllowed}
 use Rattle.load_checks.specs.Laws.{accepted, frames-few}
 use Rattle.load.specs.Load.{does, loadFrame, loadTimer}
 use Rattle.link.specs.Link.{Frame, Turn, turned, World, Ends}

@@ -23,7 +23,8 @@ use Rattle.machine_record.specs.Record as machine
 use Rattle.counts.specs.Counts.{sum}
 use Rattle.load_record.specs.declared.Session.{Session}
 use Rattle.load_record.specs.declared.Settings.{Settings as LoadSettings}
-use Rattle.load_checks.specs.Checks.{given, frames, restartsAllowed, mostSent}
+use Rattle.load_checks.specs.Checks.{given, frames, mostSent}
+use Rattle.load_valid.specs.Valid.{restartsAllowed}
 use Rattle.link.specs.Link.{World, Left}
 use Rattle.link.specs.Counted.{Counted}
 use Rattle.link.specs.MachineEnd.{End}

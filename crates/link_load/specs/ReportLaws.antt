@@ -17,7 +17,8 @@ use Rattle.machine_next.specs.Next.{parametersLaid}
 use Rattle.load_record.specs.declared.Session.{Session}
 use Rattle.load_record.specs.declared.Settings.{Settings as LoadSettings}
 use Rattle.load_checks.specs.Checks as checks
-use Rattle.load_checks.specs.Checks.{given, frames, restartsAllowed, stringRefusal}
+use Rattle.load_checks.specs.Checks.{given, frames, stringRefusal}
+use Rattle.load_valid.specs.Valid.{restartsAllowed}
 use Rattle.load_checks.specs.Laws.{frames-few, string-whole}
 use Rattle.link.specs.Link.{World, Left}
 use Rattle.link.specs.MachineEnd.{End}

@@ -5,23 +5,17 @@ use mathlib.Core.List.{List, [], _∷_}
 use lib.ListN.{length}
 use lib.Dec.{eqb, leb}
 use Rattle.directory.specs.Directory.{trailer, regions, nowhere, refusal as imageRefusal}
-use Rattle.image.specs.Image.{many, segment, widest}
-use Rattle.version.specs.Version.{known}
-use Rattle.counts.specs.Counts.{below, onlyIgnored}
+use Rattle.image.specs.Image.{many, segment}
 use Rattle.message.specs.Write.{entryList}
 use Rattle.step.specs.Step.{unless, first}
 use Rattle.load_record.specs.declared.Settings.{Settings}
 use Rattle.load_record.specs.declared.Session.{Session}
-use Rattle.load_record.specs.Record.{mostRestarts}
+use Rattle.load_valid.specs.Valid.{restarting, settled, sound}
 use Rattle.load_checks.specs.declared.Ruling.{Ruling}
 
 -- a parameter string ends the load
 abbrev pub given : Settings → Bool
 given s = eqb (s .«with_parameters») 1
-
--- a request half-way begins the load again
-abbrev pub restarting : Settings → Bool
-restarting s = eqb (s .restart) 1
 
 -- n, the number of frames that make the load: one for each of N segments, and one more for a parameter string
 abbrev pub framesOf : Settings → ℕ → ℕ
@@ -29,26 +23,6 @@ framesOf s N = pick (given s) (N + 1) N
 
 abbrev pub frames : Settings → List ℕ → ℕ
 frames s file = framesOf s (many (s .«segment_size») (regions file))
-
--- S, R, the mark of a parameter string, the restart setting and the version
-abbrev pub settled : Settings → Bool
-settled s =
-    leb 1 (s .«segment_size») && leb (s .«segment_size») widest && leb (s .repeats) 255 && leb (s .«with_parameters») 1
-    && leb (s .restart) 1 && known (s .version)
-
--- a waiting record has every number 0 but that of ignored frames
-abbrev pub blank : Session → Bool
-blank h = eqb (h .verdict) 0 && eqb (h .position) 0 && eqb (h .repeats) 0 && eqb (h .restarts) 0 && eqb (h .sent) 0 && onlyIgnored (h .counts)
-
--- how many restarts a record may have: none without the setting
-abbrev pub restartsAllowed : Settings → ℕ
-restartsAllowed s = pick (restarting s) mostRestarts 0
-
--- the record is none of those that are bad (PROTOCOL 7, 'Refusals'), but for what needs n
-abbrev pub sound : Settings → Session → Bool
-sound s h =
-    leb (h .verdict) 4 && leb (h .repeats) (s .repeats) && leb (h .restarts) (restartsAllowed s) && leb (h .waiting) 1 && below (h .counts)
-    && pick (eqb (h .waiting) 1) (blank h) true
 
 -- a load with the restart setting has at most 256 frames
 abbrev pub few : Settings → ℕ → Bool

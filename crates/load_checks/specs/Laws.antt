@@ -24,7 +24,8 @@ use Rattle.load_record.specs.declared.Settings.{Settings}
 use Rattle.load_record.specs.declared.Session.{Session}
 use Rattle.load_record.specs.Record.{mostRestarts}
 use Rattle.load_checks.specs.declared.Ruling.{Ruling}
-use Rattle.load_checks.specs.Checks.{given, restarting, framesOf, frames, settled, blank, restartsAllowed, sound, few, mostSent, consistent, longest, stringRefusal, refusal, denied, accepts, ruling}
+use Rattle.load_checks.specs.Checks.{given, framesOf, frames, few, mostSent, consistent, longest, stringRefusal, refusal, denied, accepts, ruling}
+use Rattle.load_valid.specs.Valid.{restarting, settled, blank, restartsAllowed, sound}
 
 -- the settings are in range
 pub record Set (s : Settings) : Type 0 where

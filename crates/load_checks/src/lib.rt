@@ -1,9 +1,8 @@
 // What a call of the host's end of a load refuses, but for its frame (PROTOCOL 5, 'Host end', and 7, 'Refusals').
 ghost use mathlib.Core.Path.{_≡_};
-ghost use mathlib.Core.Bool.{_&&_};
 ghost use Prim.Native.Nat.{_+_, _≤_};
 ghost use Rattle.directory.specs.Directory.{addresses};
-ghost use Rattle.load_checks.specs.Checks.{blank, settled, restartsAllowed, sound, framesOf, few, consistent, stringRefusal, denied, ruling};
+ghost use Rattle.load_checks.specs.Checks.{framesOf, few, consistent, stringRefusal, denied, ruling};
 use directory::Region;
 use load_record::Session;
 use load_record::Settings;
@@ -15,95 +14,6 @@ pub struct Ruling {
     pub many: u64,
     pub transfer: u32,
     pub segment: Region,
-}
-
-// Whether the settings are in range.
-fn settled(settings: Settings) -> bool
-    ensures { λ r. ⌜ r ≡ settled settings ⌝ }
-{
-    if settings.segment_size < 1 {
-        return false;
-    }
-    if image::WIDEST < settings.segment_size {
-        return false;
-    }
-    if 255 < settings.repeats {
-        return false;
-    }
-    if 1 < settings.with_parameters {
-        return false;
-    }
-    if 1 < settings.restart {
-        return false;
-    }
-    version::known(settings.version)
-}
-
-// Whether all numbers of a record are 0, but for that of ignored frames.
-fn blank(session: Session) -> bool
-    ensures { λ r. ⌜ r ≡ blank session ⌝ }
-{
-    if session.verdict != 0 {
-        return false;
-    }
-    if session.position != 0 {
-        return false;
-    }
-    if session.repeats != 0 {
-        return false;
-    }
-    if session.restarts != 0 {
-        return false;
-    }
-    if session.sent != 0 {
-        return false;
-    }
-    counts::only_ignored(session.counts)
-}
-
-// How many restarts a record may have: none without the setting.
-fn restarts_allowed(settings: Settings) -> u32
-    ensures { λ r. ⌜ r ≡ restartsAllowed settings ⌝ }
-{
-    if settings.restart != 1 {
-        return 0;
-    }
-    load_record::MOST_RESTARTS
-}
-
-// Whether a record is sound, but for what needs n.
-fn sound(settings: Settings, session: Session) -> bool
-    ensures { λ r. ⌜ r ≡ sound settings session ⌝ }
-{
-    if 4 < session.verdict {
-        return false;
-    }
-    if settings.repeats < session.repeats {
-        return false;
-    }
-    if restarts_allowed(settings) < session.restarts {
-        return false;
-    }
-    if 1 < session.waiting {
-        return false;
-    }
-    if !counts::below(session.counts) {
-        return false;
-    }
-    if session.waiting == 1 {
-        return blank(session);
-    }
-    true
-}
-
-// Whether the settings are in range and the record is sound, but for what needs n.
-fn valid(settings: Settings, session: Session) -> bool
-    ensures { λ r. ⌜ r ≡ settled settings && sound settings session ⌝ }
-{
-    if !settled(settings) {
-        return false;
-    }
-    sound(settings, session)
 }
 
 // The number of frames: one for each segment, and one more for a parameter string.
@@ -189,7 +99,7 @@ pub fn rule(
 ) -> Ruling
     ensures { λ r. ⌜ r ≡ ruling settings session (now (file .entry)) (now (parameters .entry)) (now (reply .entry)) index ⌝ }
 {
-    if !valid(settings, session) {
+    if !load_valid::valid(settings, session) {
         return denied(10);
     }
     if reply.len() < 1500 {

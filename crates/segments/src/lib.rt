@@ -8,7 +8,7 @@ ghost use Rattle.segments.specs.Segments.{checked, noSegment, found};
 pub struct Image {
     pub segments: u64,
     pub transfer: u32,
-    pub regions: u16,
+    pub regions: u32,
     pub refusal: u8,
 }
 

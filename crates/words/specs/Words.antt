@@ -39,7 +39,7 @@ phrases =
     chars "the host has no repeats left for the last segment: unconfirmed" ∷
     -- refusals 10, 5, 6, 7, 8: 22 to 26
     chars "The input is malformed." ∷
-    chars "The image file's length or zero field is wrong." ∷
+    chars "The image file's length is wrong." ∷
     chars "The image's entry count or directory offset is wrong." ∷
     chars "An entry of the image breaks its own rule." ∷
     chars "An entry of the image begins before the last one's end." ∷

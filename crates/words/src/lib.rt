@@ -159,7 +159,7 @@ pub fn said(w: Words, out: &mut [u8]) -> Written
         the host has no repeats left: given up\n\
         the host has no repeats left for the last segment: unconfirmed\n\
         The input is malformed.\n\
-        The image file's length or zero field is wrong.\n\
+        The image file's length is wrong.\n\
         The image's entry count or directory offset is wrong.\n\
         An entry of the image breaks its own rule.\n\
         An entry of the image begins before the last one's end.\n\

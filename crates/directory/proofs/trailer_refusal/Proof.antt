@@ -5,19 +5,19 @@ use native.Mathlib.Omega.{arith}
 use lib.Dec.{eqb, leb}
 use borrow.Author.Needs.{needs}
 use borrow.Author.Tests.{le-leb, lt-leb, eq-eqb, ne-eqb}
-use Rattle.directory.specs.Directory.{demand, trailerRefusal}
+use Rattle.directory.specs.Directory.{mostEntries, demand, trailerRefusal}
 use Rattle.directory.proofs.trailer_refusal.Statement.{statement}
 use Rattle.directory.proofs.trailer_refusal.Tie as tie
 
--- past the tests of the lengths and of the zero field the directory decides
-sized : (c : tie.Else4)
-    → let a = c .before .before .before .before .before .before .before .before .args in
+-- past the tests of the lengths the directory decides
+sized : (c : tie.Else3)
+    → let a = c .before .before .before .before .before .before .args in
     trailerRefusal (a .n) (a .t)
-    ≡ demand (leb 1 (a .t .count)) 6 (demand (leb (a .t .count) 64) 6 (demand (eqb (a .t .directory + 12 * a .t .count + 16) (a .n)) 6 0))
+    ≡ demand (leb 1 (a .t .count)) 6 (demand (leb (a .t .count) mostEntries) 6 (demand (eqb (a .t .directory + 12 * a .t .count + 16) (a .n)) 6 0))
 unfolding demand
 sized c =
-    let a = c .before .before .before .before .before .before .before .before .args in
-    rw (le-leb 16 (a .n) (omega arith), le-leb (a .n) 16777216 (omega arith), eq-eqb (a .t .length) (a .n) (omega arith), eq-eqb (a .t .zero) 0 (omega arith))
+    let a = c .before .before .before .before .before .before .args in
+    rw (le-leb 16 (a .n) (omega arith), le-leb (a .n) 16777216 (omega arith), eq-eqb (a .t .length) (a .n) (omega arith))
 
 cast-length : tie.Need-cast-length
 cast-length c = search needs
@@ -63,36 +63,25 @@ returns-4 : tie.Need-returns-4
 unfolding demand
 returns-4 c =
     let a = c .before .before .before .before .before .before .before .before .args in
-    rw (
-      le-leb 16 (a .n) (omega arith),
-      le-leb (a .n) 16777216 (omega arith),
-      eq-eqb (a .t .length) (a .n) (omega arith),
-      ne-eqb (a .t .zero) 0 (omega arith),
-    )
+    rw (sized (c .before .before), lt-leb 1 (a .t .count) (omega arith))
 
 returns-5 : tie.Need-returns-5
 unfolding demand
 returns-5 c =
     let a = c .before .before .before .before .before .before .before .before .before .before .args in
-    rw (sized (c .before .before), lt-leb 1 (a .t .count) (omega arith))
+    rw (sized (c .before .before .before .before), le-leb 1 (a .t .count) (omega arith), lt-leb (a .t .count) mostEntries (omega arith))
 
 returns-6 : tie.Need-returns-6
 unfolding demand
 returns-6 c =
-    let a = c .before .before .before .before .before .before .before .before .before .before .before .before .args in
-    rw (sized (c .before .before .before .before), le-leb 1 (a .t .count) (omega arith), lt-leb (a .t .count) 64 (omega arith))
+    let a = c .before .before .before .before .before .before .before .before .before .before .before .args in
+    rw (sized (c .before .before .before .before .before), le-leb 1 (a .t .count) (omega arith), le-leb (a .t .count) mostEntries (omega arith), ne-eqb (a .t .directory + 12 * a .t .count + 16) (a .n) (omega arith))
 
 returns-7 : tie.Need-returns-7
 unfolding demand
 returns-7 c =
-    let a = c .before .before .before .before .before .before .before .before .before .before .before .before .before .args in
-    rw (sized (c .before .before .before .before .before), le-leb 1 (a .t .count) (omega arith), le-leb (a .t .count) 64 (omega arith), ne-eqb (a .t .directory + 12 * a .t .count + 16) (a .n) (omega arith))
-
-returns-8 : tie.Need-returns-8
-unfolding demand
-returns-8 c =
-    let a = c .before .before .before .before .before .before .before .before .before .before .before .before .before .args in
-    rw (sized (c .before .before .before .before .before), le-leb 1 (a .t .count) (omega arith), le-leb (a .t .count) 64 (omega arith), eq-eqb (a .t .directory + 12 * a .t .count + 16) (a .n) (omega arith))
+    let a = c .before .before .before .before .before .before .before .before .before .before .before .args in
+    rw (sized (c .before .before .before .before .before), le-leb 1 (a .t .count) (omega arith), le-leb (a .t .count) mostEntries (omega arith), eq-eqb (a .t .directory + 12 * a .t .count + 16) (a .n) (omega arith))
 
 pub trailer-refusal-spec : {M : Type 1} → statement M
 trailer-refusal-spec =
@@ -110,5 +99,4 @@ trailer-refusal-spec =
     returns-4
     returns-5
     returns-6
-    returns-7
-    returns-8)
+    returns-7)

@@ -17,7 +17,7 @@ one S r s l m = omega (arith, parts-down S r s l, div-eq-of-lt {n = r .length - 
 returns : tie.Need-returns
 returns c =
     let start = c .before .before in
-    one (start .args .size) (start .args .r) (start .pre .0) (start .pre .1) (c .if1 .taken)
+    one (start .args .size) (start .args .r) (start .pre .0) (start .pre .1) (omega (arith, c .if1 .taken))
 
 sub-result : tie.Need-sub-result
 sub-result c = search needs

@@ -18,7 +18,8 @@ use Rattle.step.specs.Step.{unless, first}
 use Rattle.load_record.specs.declared.Settings.{Settings}
 use Rattle.load_record.specs.declared.Session.{Session}
 use Rattle.load_checks.specs.declared.Ruling.{Ruling}
-use Rattle.load_checks.specs.Checks.{framesOf, settled, sound, few, consistent, stringRefusal, refusal, denied, accepts, ruling}
+use Rattle.load_checks.specs.Checks.{framesOf, few, consistent, stringRefusal, refusal, denied, accepts, ruling}
+use Rattle.load_valid.specs.Valid.{settled, sound}
 use Rattle.load_checks.specs.Laws.{set, is-sound, restarts-most, cut-image, frames-few}
 use Rattle.load_checks.proofs.rule.Statement.{statement}
 use Rattle.load_checks.proofs.rule.Tie as tie

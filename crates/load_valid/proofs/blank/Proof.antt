@@ -1,13 +1,13 @@
--- `load_checks::blank` meets its contract.
+-- `load_valid::blank` meets its contract.
 use mathlib.Core.Path.{_≡_, _∙_}
 use native.Mathlib.Omega.{arith}
 use borrow.Author.Needs.{needs}
 use borrow.Author.Tests.{eq-eqb, ne-eqb}
 use Rattle.counts.specs.Counts.{onlyIgnored}
 use Rattle.load_record.specs.declared.Session.{Session}
-use Rattle.load_checks.specs.Checks.{blank}
-use Rattle.load_checks.proofs.blank.Statement.{statement}
-use Rattle.load_checks.proofs.blank.Tie as tie
+use Rattle.load_valid.specs.Valid.{blank}
+use Rattle.load_valid.proofs.blank.Statement.{statement}
+use Rattle.load_valid.proofs.blank.Tie as tie
 
 the-rest : (h : Session) → h .verdict ≡ 0 → h .position ≡ 0 → h .repeats ≡ 0 → h .restarts ≡ 0 → h .sent ≡ 0 → onlyIgnored (h .counts) ≡ blank h
 the-rest h v p r e s = rw (eq-eqb _ _ v, eq-eqb _ _ p, eq-eqb _ _ r, eq-eqb _ _ e, eq-eqb _ _ s)

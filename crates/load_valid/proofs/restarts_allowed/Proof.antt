@@ -1,8 +1,8 @@
--- `load_checks::restarts_allowed` meets its contract.
+-- `load_valid::restarts_allowed` meets its contract.
 use native.Mathlib.Omega.{arith}
 use borrow.Author.Tests.{eq-eqb, ne-eqb}
-use Rattle.load_checks.proofs.restarts_allowed.Statement.{statement}
-use Rattle.load_checks.proofs.restarts_allowed.Tie as tie
+use Rattle.load_valid.proofs.restarts_allowed.Statement.{statement}
+use Rattle.load_valid.proofs.restarts_allowed.Tie as tie
 
 returns : tie.Need-returns
 returns c = rw (ne-eqb (c .before .before .args .settings .restart) 1 (λ e. omega arith))

@@ -1,4 +1,4 @@
--- `load_checks::sound` meets its contract.
+-- `load_valid::sound` meets its contract.
 use Prim.Native.Nat.{_≤_}
 use mathlib.Core.Path.{_≡_, sym, _∙_}
 use mathlib.Core.Bool.{true, false, _&&_, cond}
@@ -9,9 +9,9 @@ use borrow.Author.Tests.{le-leb, lt-leb, eq-eqb, ne-eqb, not-true, not-false}
 use Rattle.counts.specs.Counts.{below}
 use Rattle.load_record.specs.declared.Settings.{Settings}
 use Rattle.load_record.specs.declared.Session.{Session}
-use Rattle.load_checks.specs.Checks.{blank, restartsAllowed, sound}
-use Rattle.load_checks.proofs.sound.Statement.{statement}
-use Rattle.load_checks.proofs.sound.Tie as tie
+use Rattle.load_valid.specs.Valid.{blank, restartsAllowed, sound}
+use Rattle.load_valid.proofs.sound.Statement.{statement}
+use Rattle.load_valid.proofs.sound.Tie as tie
 
 -- past the tests of the verdict, the repeats, the restarts and the mark
 numbers : (s : Settings) (h : Session) → h .verdict ≤ 4 → h .repeats ≤ s .repeats → h .restarts ≤ restartsAllowed s → h .waiting ≤ 1

@@ -1,10 +1,10 @@
--- `load_checks::settled` meets its contract.
+-- `load_valid::settled` meets its contract.
 use native.Mathlib.Omega.{arith}
 use borrow.Author.Needs.{needs}
 use borrow.Author.Tests.{le-leb, lt-leb}
 use Rattle.image.specs.Image.{widest}
-use Rattle.load_checks.proofs.settled.Statement.{statement}
-use Rattle.load_checks.proofs.settled.Tie as tie
+use Rattle.load_valid.proofs.settled.Statement.{statement}
+use Rattle.load_valid.proofs.settled.Tie as tie
 
 returns : tie.Need-returns
 returns c =

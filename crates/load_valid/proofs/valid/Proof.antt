@@ -1,11 +1,11 @@
--- `load_checks::valid` meets its contract.
+-- `load_valid::valid` meets its contract.
 use mathlib.Core.Path.{_≡_, sym, _∙_}
 use mathlib.Core.Bool.{true, false}
 use borrow.Author.Needs.{needs}
 use borrow.Author.Tests.{not-true, not-false}
-use Rattle.load_checks.specs.Checks.{settled}
-use Rattle.load_checks.proofs.valid.Statement.{statement}
-use Rattle.load_checks.proofs.valid.Tie as tie
+use Rattle.load_valid.specs.Valid.{settled}
+use Rattle.load_valid.proofs.valid.Statement.{statement}
+use Rattle.load_valid.proofs.valid.Tie as tie
 
 settled-requires : tie.Need-settled-requires
 settled-requires c κs = search needs
