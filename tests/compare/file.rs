@@ -24,8 +24,7 @@ pub fn build(body: &[u8], regions: &[Region], transfer: u32) -> Vec<u8> {
         }
     }
     file.extend((body.len() as u32).to_le_bytes());
-    file.extend((regions.len() as u16).to_le_bytes());
-    file.extend([0, 0]);
+    file.extend((regions.len() as u32).to_le_bytes());
     file.extend(transfer.to_le_bytes());
     file.extend((file.len() as u32 + 4).to_le_bytes());
     file

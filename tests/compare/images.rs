@@ -1,21 +1,24 @@
 //! Compares the image check and the segments.
 
 use crate::Compare;
+use crate::before;
 pub use crate::file::{Region, build};
 use crate::random::Random;
 use crate::reading::place;
 use crate::tally::Hex;
 use mop_plain::image;
 
-const FILE_MOST: usize = 16_777_216;
-const ADDRESS_END: u64 = 1 << 32;
+pub const FILE_MOST: usize = 16_777_216;
+pub const REGIONS_MOST: usize = 100_000;
+pub const ADDRESS_END: u64 = 1 << 32;
 /// A walk through all segments is made up to this many of them.
 const WALK_MOST: u64 = 300;
 
 // Places in the trailer and in a directory entry.
-const DIRECTORY_OFFSET: usize = 0;
-const COUNT: usize = 4;
-const ZERO: usize = 6;
+pub const DIRECTORY_OFFSET: usize = 0;
+pub const COUNT: usize = 4;
+/// The count's upper half.
+const COUNT_HIGH: usize = 6;
 const FILE_LENGTH: usize = 12;
 const ADDRESS: usize = 0;
 const OFFSET: usize = 4;
@@ -38,29 +41,29 @@ pub fn smallest() -> Vec<u8> {
     shared(&[7], 1, 0)
 }
 
-fn set_u32(file: &mut [u8], at: usize, number: u32) {
+pub fn set_u32(file: &mut [u8], at: usize, number: u32) {
     file[at..at + 4].copy_from_slice(&number.to_le_bytes());
 }
 
-fn get_u32(file: &[u8], at: usize) -> u32 {
+pub fn get_u32(file: &[u8], at: usize) -> u32 {
     u32::from_le_bytes([file[at], file[at + 1], file[at + 2], file[at + 3]])
 }
 
 /// Makes the length field right again.
-fn mend_length(file: &mut [u8]) {
+pub fn mend_length(file: &mut [u8]) {
     let at = trailer(file) + FILE_LENGTH;
     set_u32(file, at, file.len() as u32);
 }
 
-fn trailer(file: &[u8]) -> usize {
+pub fn trailer(file: &[u8]) -> usize {
     file.len() - 16
 }
 
 /// A good image, kept in parts so that they can be spoilt.
 pub struct Good {
-    body: Vec<u8>,
-    regions: Vec<Region>,
-    transfer: u32,
+    pub body: Vec<u8>,
+    pub regions: Vec<Region>,
+    pub transfer: u32,
 }
 
 impl Good {
@@ -83,12 +86,12 @@ impl Good {
         self.with(&self.regions)
     }
 
-    fn with(&self, regions: &[Region]) -> Vec<u8> {
+    pub fn with(&self, regions: &[Region]) -> Vec<u8> {
         build(&self.body, regions, self.transfer)
     }
 
     /// The file with one entry changed.
-    fn changed(&self, entry: usize, change: impl Fn(&mut Region)) -> Vec<u8> {
+    pub fn changed(&self, entry: usize, change: impl Fn(&mut Region)) -> Vec<u8> {
         let mut regions = self.regions.clone();
         change(&mut regions[entry]);
         self.with(&regions)
@@ -114,50 +117,122 @@ fn regions(random: &mut Random, count: usize, body: u64) -> Vec<Region> {
     regions
 }
 
+/// The segment call's answer that is a refusal.
+pub fn refused(refusal: u8) -> mop_proved::Segment {
+    mop_proved::Segment {
+        refusal,
+        ..Default::default()
+    }
+}
+
+/// Its answer that is part number `part` of a region.
+pub fn cut(region: &Region, part: u64, size: u32, last: bool) -> mop_proved::Segment {
+    let size = u64::from(size);
+    let from = part * size;
+    mop_proved::Segment {
+        at: region.offset as usize + from as usize,
+        length: size.min(u64::from(region.length) - from) as usize,
+        address: region.address + from as u32,
+        last: last.into(),
+        refusal: 0,
+    }
+}
+
+/// A file with a segment size, and what the plain check and that of before
+/// make of it.
+pub struct Tried<'a> {
+    pub file: &'a [u8],
+    size: u32,
+    plain: Result<image::Image<'a>, u8>,
+    before: Result<before::Image, before::Sort>,
+}
+
+impl<'a> Tried<'a> {
+    pub fn new(file: &'a [u8], size: u32) -> Self {
+        Tried {
+            file,
+            size,
+            plain: image::check(file, size),
+            before: before::check(file, size),
+        }
+    }
+
+    /// The plain refusal, 0 for none.
+    fn refusal(&self) -> u8 {
+        self.plain.as_ref().err().copied().unwrap_or(0)
+    }
+
+    /// The plain answers in the shape of mop.h.
+    pub fn check(&self) -> mop_proved::Image {
+        match self.plain {
+            Err(refusal) => mop_proved::Image {
+                refusal,
+                ..Default::default()
+            },
+            Ok(image) => mop_proved::Image {
+                segments: image.segments(),
+                transfer: image.transfer(),
+                regions: image.regions().len() as u32,
+                refusal: 0,
+            },
+        }
+    }
+
+    pub fn segment(&self, index: u64) -> mop_proved::Segment {
+        let answer = (self.plain).and_then(|image| image.segment(index).ok_or(10));
+        match answer {
+            Err(refusal) => refused(refusal),
+            Ok(segment) => {
+                let (at, length) = place(segment.data, self.file);
+                mop_proved::Segment {
+                    at,
+                    length,
+                    address: segment.address,
+                    last: segment.last.into(),
+                    refusal: 0,
+                }
+            }
+        }
+    }
+}
+
 impl Compare {
     /// Checks a file with both implementations at many segment sizes. `wanted`
     /// is the answer for a good size by the protocol, where it is known.
     pub fn image(&mut self, kind: &'static str, file: &[u8], wanted: Option<u8>) {
-        self.tally.image(kind);
         let random = &mut self.random;
         let good = random.range(1, 1490) as u32;
         let small = random.range(1, 40) as u32;
         let any = random.u32();
-        for size in [0, 1, 2, 1490, 1491, u32::MAX, good, small, any] {
-            let answer = image::check(file, size);
-            let refusal = answer.as_ref().err().copied().unwrap_or(0);
+        let sizes = [0, 1, 2, 1490, 1491, u32::MAX, good, small, any];
+        self.image_at(&sizes, kind, file, wanted);
+    }
+
+    /// The same at these segment sizes.
+    pub fn image_at(&mut self, sizes: &[u32], kind: &'static str, file: &[u8], wanted: Option<u8>) {
+        self.tally.image(kind);
+        if mop_proved::image_check(file, 1).refusal == 0 {
+            self.tally.accepted(before::check(file, 1).is_ok());
+        }
+        for &size in sizes {
+            let tried = Tried::new(file, size);
             let in_range = (1..=1490).contains(&size);
-            let wanted = if in_range { wanted } else { Some(10) };
-            self.check(kind, file, size, answer.ok(), refusal, wanted);
-            if let Ok(image) = answer {
-                self.segments(file, size, image);
-            } else {
-                for index in [0, self.random.u64()] {
-                    self.segment(file, size, Err(refusal), index);
+            self.check(kind, &tried, if in_range { wanted } else { Some(10) });
+            match tried.plain {
+                Ok(image) => self.segments(&tried, image),
+                Err(_) => {
+                    for index in [0, self.random.u64()] {
+                        self.segment(&tried, index);
+                    }
                 }
             }
         }
     }
 
-    fn check(
-        &mut self,
-        kind: &str,
-        file: &[u8],
-        size: u32,
-        image: Option<image::Image>,
-        refusal: u8,
-        wanted: Option<u8>,
-    ) {
+    fn check(&mut self, kind: &str, tried: &Tried, wanted: Option<u8>) {
+        let (file, size, refusal) = (tried.file, tried.size, tried.refusal());
         self.tally.check(refusal);
-        let mut expected = mop_proved::Image {
-            refusal,
-            ..Default::default()
-        };
-        if let Some(image) = image {
-            expected.segments = image.segments();
-            expected.transfer = image.transfer();
-            expected.regions = image.regions().len() as u16;
-        }
+        let expected = tried.check();
         let seen = mop_proved::image_check(file, size);
         if seen != expected {
             let what = format_args!("image check, {kind}, segment size {size}");
@@ -168,11 +243,12 @@ impl Compare {
                 format_args!("plain image check against the protocol, {kind}, segment size {size}");
             self.tally.differ(what, Hex(file), refusal, wanted);
         }
+        self.tally.since(file, &tried.before, seen);
     }
 
     /// Segments of an accepted image: the ends, both sides of N, any, and all
     /// in turn where they are few.
-    fn segments(&mut self, file: &[u8], size: u32, image: image::Image) {
+    fn segments(&mut self, tried: &Tried, image: image::Image) {
         let count = image.segments();
         let any = [(); 4].map(|()| self.random.below(count));
         let low = any[0];
@@ -182,12 +258,12 @@ impl Compare {
         for index in (ends.into_iter())
             .chain(short)
             .chain(any)
-            .chain(self.region_bounds(image, size))
+            .chain(self.region_bounds(image, tried.size))
         {
-            self.segment(file, size, Ok(image), index);
+            self.segment(tried, index);
         }
         if count <= WALK_MOST {
-            self.walk(file, size, count);
+            self.walk(tried.file, tried.size, count);
         }
     }
 
@@ -199,29 +275,17 @@ impl Compare {
         [behind - 1, behind]
     }
 
-    fn segment(&mut self, file: &[u8], size: u32, image: Result<image::Image, u8>, index: u64) {
-        let answer = image.and_then(|image| image.segment(index).ok_or(10));
-        let expected = match answer {
-            Err(refusal) => mop_proved::Segment {
-                refusal,
-                ..Default::default()
-            },
-            Ok(segment) => {
-                let (at, length) = place(segment.data, file);
-                mop_proved::Segment {
-                    at,
-                    length,
-                    address: segment.address,
-                    last: segment.last.into(),
-                    refusal: 0,
-                }
-            }
-        };
+    pub fn segment(&mut self, tried: &Tried, index: u64) {
+        let (file, size) = (tried.file, tried.size);
+        let expected = tried.segment(index);
         self.tally.segment(expected.refusal);
         let seen = mop_proved::image_segment(file, size, index);
         if seen != expected {
             let what = format_args!("segment {index}, segment size {size}");
             self.tally.differ(what, Hex(file), seen, expected);
+        }
+        if let Ok(image) = &tried.before {
+            self.tally.segment_since(file, image, index, seen);
         }
     }
 
@@ -276,20 +340,30 @@ impl Compare {
         self.small_files();
         for _ in 0..40 {
             for count in 1..=64 {
-                let good = Good::new(&mut self.random, count);
-                self.image("good, 1 to 64 regions", &good.file(), Some(0));
-                self.damaged(&good);
-                self.cut_or_extended(&good);
-                self.bad_trailer(&good);
-                self.bad_entry(&good);
-                self.bad_order(&good);
-                self.moved(&good);
+                self.good_and_spoilt("good, 1 to 64 regions", count);
             }
+        }
+        for count in 65..=128 {
+            self.good_and_spoilt("good, 65 to 2,000 regions", count);
+            let more = self.random.range(129, 2000);
+            self.good_and_spoilt("good, 65 to 2,000 regions", more);
         }
         self.counts();
         self.wraps();
         self.cut_everywhere();
         self.large_files();
+        self.many_regions();
+    }
+
+    fn good_and_spoilt(&mut self, kind: &'static str, count: usize) {
+        let good = Good::new(&mut self.random, count);
+        self.image(kind, &good.file(), Some(0));
+        self.damaged(&good);
+        self.cut_or_extended(&good);
+        self.bad_trailer(&good);
+        self.bad_entry(&good);
+        self.bad_order(&good);
+        self.moved(&good);
     }
 
     /// Paper 01's set cases K6 and K10, and the example of its rehearsal.
@@ -344,7 +418,7 @@ impl Compare {
                 let mut file = self.random.bytes(length);
                 if length >= 16 {
                     mend_length(&mut file);
-                    file[length - 16 + ZERO..][..2].fill(0);
+                    file[length - 16 + COUNT_HIGH..][..2].fill(0);
                 }
                 self.image("small files", &file, None);
             }
@@ -395,36 +469,45 @@ impl Compare {
         self.image("unused file bytes", &file, Some(0));
     }
 
-    /// Trailer fields one off, and at their extremes.
+    /// Wrong trailer fields; the length comes before the count.
     fn bad_trailer(&mut self, good: &Good) {
-        let off = |right: u32, random: &mut Random| {
-            let any = random.u32();
-            let others = [
-                right.wrapping_add(1),
-                right.wrapping_sub(1),
-                right.wrapping_add(12),
-                right.wrapping_sub(12),
-                u32::MAX,
-                any,
-            ];
-            let other = random.pick(&others);
-            if other == right { right ^ 1 } else { other }
-        };
         let file = good.file();
         let end = trailer(&file);
-        for (field, wanted) in [(FILE_LENGTH, 5), (DIRECTORY_OFFSET, 6)] {
-            let mut file = file.clone();
-            let wrong = off(get_u32(&file, end + field), &mut self.random);
-            set_u32(&mut file, end + field, wrong);
-            self.image("trailer fields off", &file, Some(wanted));
-        }
         let mut uncounted = file.clone();
         uncounted[end + COUNT] = self.random.other_than(uncounted[end + COUNT]);
         self.image("trailer fields off", &uncounted, Some(6));
-        for mut file in [file, uncounted] {
-            file[end + ZERO + self.random.range(0, 1)] = self.random.range(1, 255) as u8;
-            self.image("zero field set", &file, Some(5));
+        let moved = self.with_field_off(&file, DIRECTORY_OFFSET);
+        self.image("trailer fields off", &moved, Some(6));
+        for file in [&file, &uncounted] {
+            let long = self.with_field_off(file, FILE_LENGTH);
+            self.image("trailer fields off", &long, Some(5));
         }
+        for mut file in [file, uncounted] {
+            file[end + COUNT_HIGH + self.random.range(0, 1)] = self.random.range(1, 255) as u8;
+            self.image("upper half of the count set", &file, Some(6));
+        }
+    }
+
+    /// The file with a trailer field one off, or at an extreme.
+    fn with_field_off(&mut self, file: &[u8], field: usize) -> Vec<u8> {
+        let at = trailer(file) + field;
+        let right = get_u32(file, at);
+        let any = self.random.u32();
+        let others = [
+            right.wrapping_add(1),
+            right.wrapping_sub(1),
+            right.wrapping_add(12),
+            right.wrapping_sub(12),
+            u32::MAX,
+            any,
+        ];
+        let other = match self.random.pick(&others) {
+            same if same == right => right ^ 1,
+            other => other,
+        };
+        let mut file = file.to_vec();
+        set_u32(&mut file, at, other);
+        file
     }
 
     /// An entry that breaks its own rule, in any place.
@@ -521,7 +604,7 @@ impl Compare {
                 let regions = regions(&mut self.random, count, 40);
                 let body = self.random.bytes(40);
                 let file = build(&body, &regions, self.random.u32());
-                let wanted = if (1..=64).contains(&count) { 0 } else { 6 };
+                let wanted = if count == 0 { 6 } else { 0 };
                 self.image("every entry count", &file, Some(wanted));
             }
         }
@@ -531,7 +614,7 @@ impl Compare {
     /// begin before the file.
     fn wraps(&mut self) {
         for length in 16..=200u32 {
-            for count in [1, 2, 16, 64] {
+            for count in [1, 2, 16, 64, 65, 65_536, REGIONS_MOST as u32] {
                 let mut file = self.random.bytes(length as usize);
                 let end = trailer(&file);
                 let offset = length.wrapping_sub(12 * count + 16);
@@ -565,8 +648,8 @@ impl Compare {
         }
     }
 
-    /// About the greatest length; 64 regions that share all the bytes make as
-    /// many segments as there can be.
+    /// About the greatest length, in one region and in 64 that share all the
+    /// bytes.
     fn large_files(&mut self) {
         for count in [1, 64] {
             for length in [FILE_MOST - 1, FILE_MOST, FILE_MOST + 1] {

@@ -7,6 +7,7 @@
 //!
 //! Ends with 1 on any difference, and if an answer that can occur never came.
 
+mod before;
 mod beyond;
 mod ends;
 mod file;
@@ -14,6 +15,7 @@ mod images;
 mod make;
 mod random;
 mod reading;
+mod regions;
 mod tally;
 mod text;
 mod writing;
@@ -74,6 +76,11 @@ fn main() -> ExitCode {
         "compare: {} pairs of runs with R and a larger one, the same after {} events",
         commas(sum(|tally| tally.ends.pairs)),
         commas(sum(|tally| tally.ends.same)),
+    );
+    println!(
+        "compare: {} images accepted before as now, {} newly accepted",
+        commas(sum(|tally| tally.accepted_before)),
+        commas(sum(|tally| tally.newly_accepted)),
     );
     println!(
         "compare: {} frames, {} images, {} steps of the ends, {} differences",

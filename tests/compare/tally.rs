@@ -3,6 +3,7 @@
 use std::collections::BTreeMap;
 use std::fmt::{self, Debug};
 
+use crate::before;
 pub use crate::text::{Hex, commas};
 
 /// How often each refusal came; at 0, how often none did.
@@ -87,6 +88,9 @@ const SHOWN: u64 = 5;
 pub struct Tally {
     pub frames: u64,
     pub images: u64,
+    /// Image files that were accepted before, and those accepted since.
+    pub accepted_before: u64,
+    pub newly_accepted: u64,
     pub differences: u64,
     /// Calls of the two ends.
     pub steps: u64,
@@ -99,6 +103,8 @@ pub struct Tally {
     writer: BTreeMap<u8, Refusals>,
     check: Refusals,
     segment: Refusals,
+    /// What the image check answers now, for each sort of answer before.
+    since: BTreeMap<&'static str, Refusals>,
 }
 
 impl Tally {
@@ -121,6 +127,17 @@ impl Tally {
     pub fn image(&mut self, kind: &'static str) {
         self.images += 1;
         self.kind("image files", kind);
+    }
+
+    /// A file is accepted, and was so before or not.
+    pub fn accepted(&mut self, before: bool) {
+        self.accepted_before += u64::from(before);
+        self.newly_accepted += u64::from(!before);
+    }
+
+    /// An answer of this sort has become this one.
+    pub fn became(&mut self, before: &'static str, refusal: u8) {
+        self.since.entry(before).or_default()[usize::from(refusal)] += 1;
     }
 
     /// A session's counts were compared with the frames handed over in it.
@@ -165,10 +182,10 @@ impl Tally {
         }
         println!("  answers: 0 accepted, or the refusal");
         for (name, row, _) in self.rows() {
-            println!("    {name:<16}{}", seen(&row));
+            println!("    {name:<28}{}", seen(&row));
         }
         for (name, row) in self.sums() {
-            println!("    {name:<16}{}", seen(&row));
+            println!("    {name:<28}{}", seen(&row));
         }
         self.ends.print();
     }
@@ -206,6 +223,10 @@ impl Tally {
         }
         rows.push(("image check".to_string(), self.check, IMAGE));
         rows.push(("image segment".to_string(), self.segment, IMAGE));
+        for (name, now) in before::SORTS {
+            let seen = self.since.get(name).copied().unwrap_or_default();
+            rows.push((name.to_string(), seen, now));
+        }
         rows
     }
 

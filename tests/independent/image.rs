@@ -7,7 +7,7 @@ use crate::refusal::{BAD_DIRECTORY, BAD_FILE, BAD_REGION, BAD_SETTING, OUT_OF_OR
 pub const SEGMENT_MOST: u32 = 1490;
 
 const FILE_MOST: usize = 16_777_216;
-const REGIONS_MOST: u16 = 64;
+const REGIONS_MOST: u32 = 100_000;
 const TRAILER_LENGTH: usize = 16;
 const ENTRY_LENGTH: usize = 12;
 const ADDRESS_END: u64 = 1 << 32;
@@ -20,6 +20,7 @@ pub struct Image<'a> {
     directory: &'a [u8],
     transfer: u32,
     segment_size: u32,
+    segments: u64,
 }
 
 /// A directory entry.
@@ -49,20 +50,21 @@ pub fn check(file: &[u8], segment_size: u32) -> Result<Image<'_>, Refusal> {
     }
     let (before, trailer) = Trailer::split(file)?;
     let (body, directory) = trailer.split_directory(before)?;
-    let image = Image {
+    let mut image = Image {
         body,
         directory,
         transfer: trailer.transfer,
         segment_size,
+        segments: 0,
     };
-    image.check_regions()?;
+    image.judge_regions()?;
     Ok(image)
 }
 
 /// The last 16 bytes, which point back.
 struct Trailer {
     directory_offset: u32,
-    count: u16,
+    count: u32,
     transfer: u32,
 }
 
@@ -73,14 +75,13 @@ impl Trailer {
             return Err(BAD_FILE);
         }
         let (before, trailer) = file.split_last_chunk::<TRAILER_LENGTH>().ok_or(BAD_FILE)?;
-        let zero = u16_at(trailer, 6);
         let file_length = u32_at(trailer, 12);
-        if file_length as usize != file.len() || zero != 0 {
+        if file_length as usize != file.len() {
             return Err(BAD_FILE);
         }
         let trailer = Trailer {
             directory_offset: u32_at(trailer, 0),
-            count: u16_at(trailer, 4),
+            count: u32_at(trailer, 4),
             transfer: u32_at(trailer, 8),
         };
         Ok((before, trailer))
@@ -94,7 +95,7 @@ impl Trailer {
         let (body, directory) = before
             .split_at_checked(self.directory_offset as usize)
             .ok_or(BAD_DIRECTORY)?;
-        if directory.len() != ENTRY_LENGTH * usize::from(self.count) {
+        if directory.len() != ENTRY_LENGTH * self.count as usize {
             return Err(BAD_DIRECTORY);
         }
         Ok((body, directory))
@@ -115,9 +116,7 @@ impl<'a> Image<'a> {
 
     /// N, the number of segments.
     pub fn segments(&self) -> u64 {
-        self.regions()
-            .map(|region| region.segments(self.segment_size))
-            .sum()
+        self.segments
     }
 
     /// Segment number `index`, counted from 0, if there is one.
@@ -147,7 +146,8 @@ impl<'a> Image<'a> {
         }
     }
 
-    fn check_regions(&self) -> Result<(), Refusal> {
+    /// The entries in turn, and their segments counted.
+    fn judge_regions(&mut self) -> Result<(), Refusal> {
         let mut end = 0;
         for region in self.regions() {
             if !region.is_good(self.body.len() as u64) {
@@ -157,6 +157,7 @@ impl<'a> Image<'a> {
                 return Err(OUT_OF_ORDER);
             }
             end = region.end();
+            self.segments += region.segments(self.segment_size);
         }
         Ok(())
     }
@@ -186,10 +187,6 @@ impl Region {
     fn segments(&self, segment_size: u32) -> u64 {
         self.length.div_ceil(segment_size).into()
     }
-}
-
-fn u16_at(bytes: &[u8], at: usize) -> u16 {
-    u16::from_le_bytes([bytes[at], bytes[at + 1]])
 }
 
 fn u32_at(bytes: &[u8], at: usize) -> u32 {

@@ -181,15 +181,13 @@ fn check<'l, 'r>(
     good_record(counts.have_room())?;
     good_record(restarts <= settings.restarts_most())?;
     let reply = Reply::new(reply)?;
-    let frames = Frames {
-        image: image::check(file, settings.segment_size)?,
-        parameters: settings.parameters,
-    };
-    if settings.restart.is_some_and(|most| frames.count() > most) {
+    let image = image::check(file, settings.segment_size)?;
+    let frames = Frames::new(image, settings.parameters);
+    if settings.restart.is_some_and(|most| frames.count > most) {
         return Err(TOO_MANY);
     }
     if let Session::Begun(progress) = session {
-        good_record(progress.is_good(settings.repeats, frames.count()))?;
+        good_record(progress.is_good(settings.repeats, frames.count))?;
     }
     if let Some(string) = settings.parameters {
         check_string(settings.version, string)?;
@@ -270,7 +268,7 @@ impl Progress {
         self.counts.advances += 1;
         self.position += 1;
         self.repeats = 0;
-        if self.position == frames.count() {
+        if self.position == frames.count {
             self.verdict = Verdict::Finished;
             return None;
         }
@@ -293,7 +291,7 @@ impl Progress {
             self.repeats += 1;
             return self.send(frames, reply);
         }
-        self.verdict = if self.position + 1 < frames.count() {
+        self.verdict = if self.position + 1 < frames.count {
             Verdict::GivenUp
         } else {
             Verdict::Unconfirmed
@@ -312,12 +310,17 @@ impl Progress {
 struct Frames<'a> {
     image: Image<'a>,
     parameters: Option<&'a [u8]>,
+    /// n, a frame for each segment and one for the parameters.
+    count: u64,
 }
 
 impl<'a> Frames<'a> {
-    /// n, a frame for each segment and one for the parameters.
-    fn count(&self) -> u64 {
-        self.image.segments() + u64::from(self.parameters.is_some())
+    fn new(image: Image<'a>, parameters: Option<&'a [u8]>) -> Self {
+        Frames {
+            image,
+            parameters,
+            count: image.segments() + u64::from(parameters.is_some()),
+        }
     }
 
     /// Frame number `index`, counted from 0. The last one has the transfer

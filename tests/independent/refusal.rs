@@ -13,8 +13,8 @@ pub const UNKNOWN_CODE: Refusal = 3;
 /// A program type, software form, entry type, entry length or time field is
 /// outside its list.
 pub const OUTSIDE_LIST: Refusal = 4;
-/// The file is under 16 or above 16,777,216 bytes, or its length field or
-/// zero field is wrong.
+/// The file is under 16 or above 16,777,216 bytes, or its length field is
+/// wrong.
 pub const BAD_FILE: Refusal = 5;
 /// The entry count or the directory offset is wrong.
 pub const BAD_DIRECTORY: Refusal = 6;

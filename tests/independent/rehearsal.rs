@@ -35,7 +35,8 @@ const MACHINE: machine::Settings = machine::Settings {
 #[derive(Clone)]
 pub struct Rehearsal {
     pub transcript: Vec<u8>,
-    /// N, the segments of the image.
+    /// The regions of the image, and N, its segments.
+    pub regions: usize,
     pub segments: u64,
     /// Frames that found the host's queue full.
     pub dropped_from_host: u64,
@@ -66,6 +67,7 @@ pub fn run(input: &[u8]) -> Result<Rehearsal, Refusal> {
         stage.event(event)?;
     }
     Ok(Rehearsal {
+        regions: image.regions().len(),
         segments: image.segments(),
         dropped_from_host: stage.from_host.dropped,
         dropped_from_machine: stage.from_machine.dropped,

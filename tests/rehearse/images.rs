@@ -3,13 +3,12 @@
 use crate::file::{Region, build};
 use crate::inputs::Input;
 use crate::job::Job;
-use crate::loads::{ladder, small};
+use crate::loads::small;
 use crate::random::Random;
 
 // Places in the trailer.
 const DIRECTORY_OFFSET: usize = 0;
 const COUNT: usize = 4;
-const ZERO: usize = 6;
 const FILE_LENGTH: usize = 12;
 
 /// A job with some events, which must not be seen.
@@ -36,37 +35,36 @@ fn mend_length(file: &mut [u8]) {
     set_u32(file, at, file.len() as u32);
 }
 
-/// No bytes, too few, a wrong length field, or a zero field that is not 0.
+/// No bytes, too few, or a wrong length field.
 pub fn bad_file(random: &mut Random) -> Input {
     let job = with_events(random);
     let mut file = job.file();
     let end = trailer(&file);
-    match random.below(5) {
+    match random.below(4) {
         0 => file.clear(),
         1 => file.truncate(random.range(0, 15)),
-        2 => {
+        way => {
             let right = file.len() as u32;
             let any = random.u32() | 0x100_0000;
             let wrong = random.pick(&[right + 1, right - 1, 0, right << 16, right + 65536, any]);
             set_u32(&mut file, end + FILE_LENGTH, wrong);
-        }
-        3 => file[end + ZERO + random.range(0, 1)] = random.range(1, 255) as u8,
-        _ => {
-            // The directory is wrong too, which comes later.
-            file[end + ZERO] = 1;
-            file[end + COUNT] = 0;
+            // The directory may be wrong too, which comes later.
+            if way == 2 {
+                set_u32(&mut file, end + COUNT, random.pick(&[0, 65536, u32::MAX]));
+            }
         }
     }
     refused(&job, &file, 5)
 }
 
-/// A count or a directory offset that is wrong, or right only in 32 bits.
+/// A count or a directory offset that is wrong, or right only in 16 or 32 bits.
 pub fn bad_directory(random: &mut Random) -> Input {
     let job = with_events(random);
     let mut file = job.file();
     let end = trailer(&file);
     let offset = job.body.len() as u32;
-    match random.below(5) {
+    let count = job.regions.len() as u32;
+    match random.below(6) {
         0 => {
             let wrong = [
                 offset + 1,
@@ -78,23 +76,30 @@ pub fn bad_directory(random: &mut Random) -> Input {
             set_u32(&mut file, end + DIRECTORY_OFFSET, random.pick(&wrong));
         }
         1 => file[end + COUNT] = random.other_than(file[end + COUNT]),
-        2 => file[end + COUNT + 1] = random.range(1, 255) as u8,
+        2 => file[end + COUNT + random.range(1, 3)] = random.range(1, 255) as u8,
         3 => {
-            let count = random.pick(&[0, 65, 66, 128]);
-            file = build(&job.body, &ladder(count), job.transfer);
+            let quarter = count + (1 << 30);
+            let wrong = [count << 16, quarter, 100_000, 100_001, u32::MAX];
+            set_u32(&mut file, end + COUNT, random.pick(&wrong));
         }
-        _ => {
-            let length = random.range(16, 60);
-            file = random.bytes(length);
-            let end = trailer(&file);
-            let count = random.range(4, 64) as u32;
-            let wrap = (file.len() as u32).wrapping_sub(12 * count + 16);
-            set_u32(&mut file, end + DIRECTORY_OFFSET, wrap);
-            set_u32(&mut file, end + COUNT, count);
-            mend_length(&mut file);
-        }
+        4 => file = build(&job.body, &[], job.transfer),
+        _ => file = beyond_32_bits(random),
     }
     refused(&job, &file, 6)
+}
+
+/// A short file whose directory has its place only in 32 bits.
+fn beyond_32_bits(random: &mut Random) -> Vec<u8> {
+    let length = random.range(16, 60);
+    let mut file = random.bytes(length);
+    let end = trailer(&file);
+    let few = random.range(4, 64) as u32;
+    let count = random.pick(&[few, few, 65, 65_536, 100_000, 357_913_942, u32::MAX]);
+    let offset = (end as u32).wrapping_sub(count.wrapping_mul(12));
+    set_u32(&mut file, end + DIRECTORY_OFFSET, offset);
+    set_u32(&mut file, end + COUNT, count);
+    mend_length(&mut file);
+    file
 }
 
 /// An entry that breaks its own rule.

@@ -61,7 +61,7 @@ pub const KINDS: [Kind; 41] = [
     kind("about 257 segments and more, clean", 200, loads::long_clean),
     kind("200 segments and more, lossy", 200, loads::long_mixed),
     kind("frames of about 1,500 bytes", 300, loads::large_frames),
-    kind("60 to 64 regions", 200, loads::many_regions),
+    kind("60 to 339 regions", 400, loads::many_regions),
     kind("8,192 bytes", 300, loads::longest),
     kind("8,193 bytes and more, right form", 300, loads::too_long),
     kind(

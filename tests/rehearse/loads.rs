@@ -2,7 +2,7 @@
 
 use crate::file::Region;
 use crate::inputs::{Input, Wanted};
-use crate::job::{End, Job};
+use crate::job::{End, INPUT_MOST, Job};
 use crate::random::Random;
 use mop_plain::rehearsal::rehearse;
 
@@ -71,7 +71,7 @@ pub fn small(random: &mut Random) -> Job {
 }
 
 /// So many regions of the same byte, one after the other.
-pub fn ladder(count: u32) -> Vec<Region> {
+fn ladder(count: u32) -> Vec<Region> {
     let region = |address| Region {
         address,
         offset: 0,
@@ -101,11 +101,12 @@ fn many(random: &mut Random, count: usize) -> Job {
     }
 }
 
-/// Up to 64 adjacent regions over the same bytes, in segments of one or two
-/// bytes.
+/// Up to 150 adjacent regions over the same bytes, in segments of one or two
+/// bytes, with room for two letters to each.
 fn many_shared(random: &mut Random) -> Job {
-    let count = random.range(10, 64);
-    let length = random.range(300 / count + 1, 3000 / count);
+    let count = random.range(10, 150);
+    let most = (INPUT_MOST - 60 - 24 * count) / (2 * count + 2);
+    let length = random.range(300 / count + 1, most);
     let region = |place| Region {
         address: (place * length) as u32,
         offset: 0,
@@ -348,12 +349,18 @@ pub fn large_frames(random: &mut Random) -> Input {
     load(job, None)
 }
 
-/// From 60 to 64 regions: all that a directory may have.
+/// From 60 regions to as many as an input has room for: each takes 24 digits.
 pub fn many_regions(random: &mut Random) -> Input {
+    let any = random.range(60, 339);
+    let count = random.pick(&[64, 65, any, any, any, 339]);
     let mut job = small(random);
-    job.regions = ladder(random.range(60, 64) as u32);
-    job.memory = random.range(55, 70);
-    job.events = b"tht".repeat(random.range(0, 70));
+    job.body.truncate(1);
+    job.size = random.pick(&[1, 1, job.size]);
+    job.regions = ladder(count as u32);
+    job.memory = random.range(count - 5, count + 6);
+    let room = job.room();
+    job.events = clean_events(random.range(0, count + 6));
+    job.events.truncate(room);
     load(job, None)
 }
 

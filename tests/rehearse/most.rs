@@ -1,5 +1,5 @@
 //! The inputs with the most printing, but for some hundred bytes, and with the
-//! most work.
+//! most work in a whole load.
 //!
 //! A letter prints at most one frame. A segment is printed at most 256 times,
 //! by its first sending and 255 repeats, and every byte of it takes two digits
@@ -7,6 +7,11 @@
 //! 4,096 bytes of memory; the last need not fit. That is 4,096 + 1,490 bytes,
 //! in the fewest segments, from regions that share their bytes in the file.
 //! Letters that are left print the machine's request, 15 bytes each.
+//!
+//! Each step of the host looks through the whole directory. A region takes 24
+//! digits of the input and an answered segment two letters, so the most entries
+//! are looked at where the directory has one half of the input and the letters
+//! have the other: 169 regions and 2,028 segments, 342,901 entries.
 
 use crate::file::Region;
 use crate::job::Job;
@@ -22,10 +27,8 @@ pub fn most_printing() -> Job {
     job
 }
 
-/// A whole load of 3,200 segments from 64 regions: each step of the host looks
-/// through the directory.
 pub fn most_work() -> Job {
-    let mut job = shared(&[50; 64], 1);
+    let mut job = shared(&[12; 169], 1);
     job.events = [b"t", &b"ht".repeat(job.segments())[..]].concat();
     job
 }

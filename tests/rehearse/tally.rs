@@ -23,7 +23,10 @@ const LONG: u64 = 257;
 /// A line of the transcript for a frame of 1,500 bytes.
 const LONGEST_LINE: usize = 2 + 3000;
 
-const MARKS: [&str; 16] = [
+/// The most regions of an image before the limit was 100,000.
+const MANY: usize = 64;
+
+const MARKS: [&str; 18] = [
     "8,192 bytes, accepted",
     "8,193 bytes",
     "no bytes",
@@ -39,6 +42,8 @@ const MARKS: [&str; 16] = [
     "both queues overflowed",
     "more than 257 segments",
     "more than 257 segments, finished",
+    "more than 64 regions",
+    "more than 64 regions, finished",
     "a frame of 1,500 bytes",
 ];
 
@@ -102,8 +107,11 @@ impl Tally {
         self.mark("the machine's queue overflowed", machine);
         self.mark("both queues overflowed", host && machine);
         self.mark("more than 257 segments", long);
-        let finished = long && end.verdict == 1;
-        self.mark("more than 257 segments, finished", finished);
+        let finished = end.verdict == 1;
+        self.mark("more than 257 segments, finished", long && finished);
+        let many = rehearsal.regions > MANY;
+        self.mark("more than 64 regions", many);
+        self.mark("more than 64 regions, finished", many && finished);
         let longest = lines.any(|line| line.starts_with(b"H ") && line.len() == LONGEST_LINE);
         self.mark("a frame of 1,500 bytes", longest);
     }

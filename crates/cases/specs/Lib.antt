@@ -7,3 +7,4 @@ pub mod WindowExample
 pub mod VersionExample
 pub mod RepeatsExample
 pub mod Impostors
+pub mod RegionsExample

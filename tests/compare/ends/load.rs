@@ -12,7 +12,6 @@ use mop_plain::step::Sent;
 use mop_plain::version::Version;
 use mop_proved::{Counts, LoadSettings, Step, Written};
 
-const FILE_MOST: usize = 16_777_216;
 /// The most frames of a load that may begin again.
 const RESTARTING_MOST: u64 = 256;
 /// The most restarts.
@@ -222,16 +221,12 @@ impl Compare {
         self.load_answers();
         self.load_parameters();
         for _ in 0..1500 {
-            let count = self.random.pick(&[1, 1, 2, 3, 64]);
+            let count = self.random.pick(&[1, 1, 2, 3, 64, 65, 200]);
             let file = Good::new(&mut self.random, count).file();
             for _ in 0..40 {
                 let file = self.perhaps_spoilt_image(&file);
                 self.any_load_step("any record, image and frame", &file);
             }
-        }
-        let file = images::shared(&self.random.bytes(FILE_MOST - 16 - 64 * 12), 64, 5);
-        for _ in 0..3000 {
-            self.any_load_step("as many segments as can be", &file);
         }
     }
 
@@ -334,7 +329,7 @@ impl Compare {
             .pick(&[0, allowed, allowed.saturating_sub(1), any])
     }
 
-    fn any_load_step(&mut self, kind: &'static str, file: &[u8]) {
+    pub fn any_load_step(&mut self, kind: &'static str, file: &[u8]) {
         let version = self.any_version();
         let (string, refusal) = self.any_string(version);
         let mut end = self.good_load(version, file, &string);
@@ -379,7 +374,7 @@ impl Compare {
 
     /// The image file, or now and then one with a byte of directory or trailer
     /// changed, or cut.
-    fn perhaps_spoilt_image(&mut self, file: &[u8]) -> Vec<u8> {
+    pub fn perhaps_spoilt_image(&mut self, file: &[u8]) -> Vec<u8> {
         let mut file = file.to_vec();
         let tail = file.len().min(40);
         match self.random.below(16) {

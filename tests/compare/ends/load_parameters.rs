@@ -99,10 +99,9 @@ impl Compare {
             self.parameters_set_cases(version);
         }
         for segments in [1, 255, 256, 257, 512] {
-            self.last_frames(segments);
-            for mark in [0, 1] {
-                self.end_of_load(segments, mark);
-            }
+            let body = self.random.bytes(segments as usize);
+            let file = images::shared(&body, 1, 5);
+            self.end_of_load(&file, segments, body[body.len() - 1]);
         }
         for version in VERSIONS {
             let strings = set_strings(&mut self.random, version);
@@ -151,18 +150,26 @@ impl Compare {
         self.set_case(&empty, running(2, 0, 4), timer, &[], wanted);
     }
 
-    /// What goes out at the end of a load of so many segments, by the protocol:
-    /// the numbers come round at 256.
-    fn last_frames(&mut self, segments: u64) {
-        let body = self.random.bytes(segments as usize);
-        let file = images::shared(&body, 1, 5);
+    /// The end of a load of so many segments of a byte, from address 0 on. The
+    /// transfer address is 5; the last byte is given.
+    pub fn end_of_load(&mut self, file: &[u8], segments: u64, byte: u8) {
+        self.last_frames(file, segments, byte);
+        for mark in [0, 1] {
+            let version = self.any_version();
+            let string = self.any_entries(version).concat();
+            self.last_records(&one_byte(version, file, mark, &string), segments);
+        }
+    }
+
+    /// What goes out, by the protocol: the numbers come round at 256.
+    fn last_frames(&mut self, file: &[u8], segments: u64, byte: u8) {
         let version = self.any_version();
         let string = self.any_entries(version).concat();
-        let number = (segments - 1) as u8;
-        let address = (segments as u32 - 1).to_le_bytes();
-        let last = [&[number], &address[..], &body[body.len() - 1..]].concat();
-        self.last_with_parameters(&one_byte(version, &file, 1, &string), segments, &last);
-        self.last_without(&one_byte(version, &file, 0, &string), segments, &last);
+        let index = segments - 1;
+        let address = (index as u32).to_le_bytes();
+        let last = [&[index as u8], &address[..], &[byte]].concat();
+        self.last_with_parameters(&one_byte(version, file, 1, &string), segments, &last);
+        self.last_without(&one_byte(version, file, 0, &string), segments, &last);
     }
 
     /// `segment` is the last one's frame behind its code.
@@ -204,23 +211,19 @@ impl Compare {
         }
     }
 
-    /// Records about the end of a load, good and bad: a string that is dropped
-    /// or comes up in the middle is among them.
-    fn end_of_load(&mut self, segments: u64, mark: u8) {
-        let file = images::shared(&self.random.bytes(segments as usize), 1, 5);
-        let version = self.any_version();
-        let string = self.any_entries(version).concat();
-        let end = one_byte(version, &file, mark, &string);
+    /// Records about the end of a load and at its start, good and bad: a string
+    /// that is dropped or comes up in the middle is among them.
+    fn last_records(&mut self, end: &Load, segments: u64) {
         let frames = end.frames(segments);
         let most = frames * 2;
-        for position in segments - 1..=segments + 2 {
+        for position in (segments - 1..=segments + 2).chain([0, 1]) {
             for verdict in 0..=4 {
                 for sent in [0, most - 1, most, most + 1] {
                     for repeats in [0, 1] {
                         let at_end = position == frames;
                         let bad = position > frames || sent > most || (verdict == 1) != at_end;
                         let record = ended(verdict, position, repeats, sent);
-                        self.about_the_end(&end, record, if bad { 10 } else { 0 });
+                        self.about_the_end(end, record, if bad { 10 } else { 0 });
                     }
                 }
             }

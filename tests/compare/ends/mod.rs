@@ -15,6 +15,7 @@ mod machine;
 mod machine_parameters;
 mod machine_windows;
 mod noise;
+mod regions;
 mod repeats;
 mod reset_runs;
 mod restarts;
@@ -213,12 +214,14 @@ impl Compare {
     pub fn all_ends(&mut self) {
         self.machine_steps();
         self.load_steps();
+        self.region_steps();
         self.dump_steps();
         self.count_cases();
         self.restart_steps();
         self.set_run();
         self.load_runs();
         self.window_runs();
+        self.region_runs();
         self.reset_runs();
         self.one_frame_too_many();
         self.dump_runs();

@@ -178,7 +178,7 @@ impl Compare {
         }
     }
 
-    fn drive_with_resets(&mut self, kind: &'static str, job: &Job, mix: Mix, events: usize) {
+    pub fn drive_with_resets(&mut self, kind: &'static str, job: &Job, mix: Mix, events: usize) {
         self.tally.kind(RUNS, kind);
         self.on_link(job, |compare, link| {
             compare.drive(link, mix, events, |link| job.claim(link));

@@ -440,7 +440,7 @@ impl Compare {
         self.perhaps_with_parameters(job)
     }
 
-    fn perhaps_with_parameters(&mut self, job: Job) -> Job {
+    pub fn perhaps_with_parameters(&mut self, job: Job) -> Job {
         match self.random.once_in(2) {
             true => {
                 let version = job.settings.version;
@@ -531,7 +531,7 @@ impl Compare {
     }
 
     /// A memory of this length, or of a little more than the version's least.
-    fn memory_of(&mut self, version: u8, length: usize) -> Vec<u8> {
+    pub fn memory_of(&mut self, version: u8, length: usize) -> Vec<u8> {
         let length = match small_memory(version, length) {
             0 => length,
             _ => MEMORY_LEAST + self.random.range(0, 5),

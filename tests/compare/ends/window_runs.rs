@@ -67,7 +67,7 @@ impl Compare {
 
     /// Where nothing is lost, a load is finished if all its frames fit, and
     /// otherwise rejected at the first that does not.
-    fn clean_run(&mut self, kind: &'static str, job: &Job) {
+    pub fn clean_run(&mut self, kind: &'static str, job: &Job) {
         self.tally.kind("loads where nothing is lost", kind);
         self.tally.kind("the same loads", job.sort());
         let record = self.load_run(job, CLEAN, 40 + 16 * job.frames());
