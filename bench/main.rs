@@ -53,12 +53,15 @@ fn main() {
         "ns per call, median", "proved", "plain", "ratio"
     );
     if std::env::args().nth(1).is_none_or(|word| word != "regions") {
-        calls();
+        reading();
+        loads();
+        machines();
+        print("dump of 16 MiB, a frame", &dump::rounds());
     }
     regions::rows();
 }
 
-fn calls() {
+fn reading() {
     let mut mix = Vec::new();
     for (name, frames) in [
         ("read, small frames", small_frames()),
@@ -81,6 +84,10 @@ fn calls() {
         mix.extend(frames);
     }
     read("read, all of these", &mix);
+}
+
+/// Images of few regions, and the steps of their loads.
+fn loads() {
     for (regions, name) in [(1, "1 region"), (64, "64 regions")] {
         let file = image(regions, 60_000);
         check(&format!("image check, {name}"), &file);
@@ -95,6 +102,9 @@ fn calls() {
     ] {
         load::step(name, &file, Some(&string));
     }
+}
+
+fn machines() {
     for (name, start, length) in [
         ("machine step, no window", 0, 0),
         ("machine step, a window beside", 512, 488),
@@ -109,7 +119,6 @@ fn calls() {
     ] {
         machine::parameters(name, version, short.clone());
     }
-    print("dump of 16 MiB, a frame", &dump::rounds());
 }
 
 fn read(name: &str, frames: &[Vec<u8>]) {

@@ -63,7 +63,7 @@ void image_list(FILE *out, const contents *file, mop_image image, uint32_t most)
         total += entry_at(directory, i).length;
     print_entries(out, directory, 0, first);
     if (first < last)
-        fprintf(out, ".. %" PRIu32 " more regions (mopimage --list tells all) ..\n", last - first);
+        fprintf(out, ".. %" PRIu32 " more (mopimage --list tells all regions) ..\n", last - first);
     print_entries(out, directory, last, image.regions);
     fprintf(out, "transfer address: 0x%08" PRIX32 " (0o%" PRIo32 ")\n", image.transfer, image.transfer);
     fprintf(out, "%" PRIu64 " bytes to load, regions: %" PRIu32 "; the file has %zu bytes\n", total, image.regions,
@@ -88,11 +88,11 @@ static const char *fault(entry e, uint64_t directory, uint64_t end_before)
 static void explain_directory(FILE *out, size_t length, uint64_t directory, uint64_t count)
 {
     const uint64_t behind = IMAGE_ENTRY * count + IMAGE_TRAILER; /* bytes from the directory on */
+    if (count > MOP_REGIONS_MOST)
+        fprintf(out, "%" PRIu64 " regions are too many: an image holds at most %d\n", count, MOP_REGIONS_MOST);
     if (count == 0)
         fputs("an image has at least one region\n", out);
-    if (count > MOP_REGIONS_MOST)
-        fprintf(out, "its directory has %" PRIu64 " regions, and an image holds at most %d\n", count, MOP_REGIONS_MOST);
-    if (behind > length)
+    else if (behind > length)
         fprintf(out, "with so many regions directory and trailer would have %" PRIu64 " bytes, more than the file\n",
             behind);
     else if (directory != length - behind)

@@ -93,7 +93,8 @@ static const char manual[] = "NAME\n"
                              "  Makes an image file from one or more inputs: the bytes of each with their\n"
                              "  addresses in the machine's memory, and the address where the machine is\n"
                              "  started. Inputs may come in any order and must not overlap; neighbours\n"
-                             "  become one region, and there may be %d regions.\n"
+                             "  become one region, and there may be at most %d regions. Of more than %d\n"
+                             "  the first and the last are shown.\n"
                              "\n"
                              "OPTIONS\n"
                              "  -o IMAGE, --output IMAGE\n"
@@ -124,7 +125,7 @@ static const char manual[] = "NAME\n"
 
 static void help(void)
 {
-    printf(manual, MOP_REGIONS_MOST);
+    printf(manual, MOP_REGIONS_MOST, LISTED);
     words_statuses(stdout, STATUS_FINISHED, STATUS_OTHER);
     words_statuses(stdout, STATUS_USAGE, STATUS_USAGE);
     words_statuses(stdout, STATUS_IMAGE, STATUS_FILE);

@@ -72,7 +72,6 @@ void words_statuses(FILE *out, int first, int last)
 
 const char *refusal_words(uint8_t refusal)
 {
-    static char directory[128]; /* has the limit of the header */
     static const char *const words[] = {
         [MOP_ACCEPTED] = "nothing is refused",
         [MOP_REFUSED_SHORT] = "the frame is empty or ends too early",
@@ -80,7 +79,8 @@ const char *refusal_words(uint8_t refusal)
         [MOP_REFUSED_CODE] = "the frame's code is none of the protocol's",
         [MOP_REFUSED_FIELD] = "a field of the frame has a value outside its list",
         [MOP_REFUSED_FILE] = "the file is too short or too long (16 to 16777216 bytes), or its length field is wrong",
-        [MOP_REFUSED_DIRECTORY] = directory,
+        [MOP_REFUSED_DIRECTORY] =
+            "there are no regions or too many, or the directory does not stand where the trailer says",
         [MOP_REFUSED_ENTRY] =
             "a region is empty, or its bytes are not in the file, or it ends above address 0xFFFFFFFF",
         [MOP_REFUSED_OVERLAP] =
@@ -90,9 +90,6 @@ const char *refusal_words(uint8_t refusal)
         [MOP_REFUSED_MEMORY] = "version 2.1 needs a memory of at least 64 bytes, for its parameter block",
         [MOP_REFUSED_MANY] = "a load that may begin again has at most 256 frames, one for its parameters counted",
     };
-    snprintf(directory, sizeof directory,
-        "the number of regions is not 1 to %d, or the directory does not stand where the trailer says",
-        MOP_REGIONS_MOST);
     return PICK(words, refusal, "a refusal without a meaning");
 }
 

@@ -761,8 +761,8 @@ mop_load mop_load_start(void);
  *          bytes.
  *   Out    the next record, and the length of the frame to send, 0 for none;
  *          that frame at the start of reply, the bytes behind it as they were.
- *   Costs  at most one look at each directory entry: some 0.1 ms for the most
- *          regions (docs/BENCHMARKS.md).
+ *   Costs  at most one walk over the directory, some 0.1 ms for the most regions
+ *          (docs/BENCHMARKS.md), and what the frame costs.
  *   Refuses, in this order:
  *          10 for a setting, for a record with a verdict above 4, repeats
  *             above the settings', waiting above 1, restarts above 65,535 or,

@@ -8,6 +8,8 @@
 #include "make.h"
 #include "tests.h"
 
+#define ADDRESSES (UINT64_C(1) << 32)
+
 static lent file;
 
 static mop_image check_image(const uint8_t *bytes, size_t length, uint32_t size)
@@ -109,21 +111,42 @@ static uint32_t any_size(void)
     return (uint32_t)(once_in(4) ? hostile() : 1 + below(MOP_SEGMENT_MOST));
 }
 
-/* A file of the greatest length, and one byte more: its regions share the bytes,
- * and have almost all addresses. */
+/* Regions that share the bytes and have all addresses; the last has what is left. */
+static void put_all(uint8_t *directory, size_t regions)
+{
+    const uint64_t length = (ADDRESSES + regions - 1) / regions;
+    for (size_t i = 0; i < regions; i++) {
+        const uint64_t address = length * i;
+        put32(directory + 12 * i, address);
+        put32(directory + 12 * i + 8,
+            i + 1 < regions ? length : ADDRESSES - address);
+    }
+}
+
+/* As many segments as there can be, and no more. */
+static void check_last(const uint8_t *bytes)
+{
+    const mop_segment last =
+        find_segment(bytes, MOP_FILE_MOST, 1, ADDRESSES - 1);
+    demand(check_image(bytes, MOP_FILE_MOST, 1).segments == ADDRESSES,
+        "another number of segments");
+    demand(last.refusal == MOP_ACCEPTED && last.last == 1 &&
+               last.address == UINT32_MAX,
+        "another last segment");
+    demand(find_segment(bytes, MOP_FILE_MOST, 1, ADDRESSES).refusal ==
+               MOP_REFUSED_RANGE,
+        "a segment behind the last");
+}
+
+/* A file of the greatest length, and one byte more. */
 static void check_longest(size_t regions)
 {
     static const uint32_t sizes[] = {0, 1, 2, 1489, 1490, 1491};
     const size_t directory = MOP_FILE_MOST - 16 - 12 * regions;
-    const uint64_t all = (UINT64_C(1) << 32) / regions;
-    const uint64_t length = all < directory ? all : directory;
     uint8_t *bytes = calloc(MOP_FILE_MOST + 1, 1);
     if (bytes == NULL)
         exit(2);
-    for (size_t i = 0; i < regions; i++) {
-        put32(bytes + directory + 12 * i, length * i);
-        put32(bytes + directory + 12 * i + 8, length);
-    }
+    put_all(bytes + directory, regions);
     put32(bytes + MOP_FILE_MOST - 16, directory);
     put32(bytes + MOP_FILE_MOST - 12, regions);
     put32(bytes + MOP_FILE_MOST - 4, MOP_FILE_MOST);
@@ -131,6 +154,7 @@ static void check_longest(size_t regions)
         check_both(bytes, MOP_FILE_MOST, sizes[i], MOP_ACCEPTED);
         check_both(bytes, MOP_FILE_MOST + 1, sizes[i], MOP_REFUSED_FILE);
     }
+    check_last(bytes);
     free(bytes);
 }
 
@@ -211,6 +235,6 @@ void test_images(void)
         check_counts(bytes);
     for (size_t i = 0; i < sizeof counts / sizeof counts[0]; i++)
         check_many(counts[i]);
-    check_longest(256);
+    check_longest(257);
     check_longest(MOP_REGIONS_MOST);
 }

@@ -77,7 +77,7 @@ static void check_explained(const char *text, const contents *file, uint8_t refu
     if (refusal != MOP_REFUSED_DIRECTORY)
         return;
     uint64_t count = slow_count(file->bytes, file->length);
-    bool elsewhere = !slow_placed(file->bytes, file->length);
+    bool elsewhere = count > 0 && !slow_placed(file->bytes, file->length);
     require((strstr(text, "holds at most") != NULL) == (count > MOP_REGIONS_MOST), "that regions are too many is told");
     require((strstr(text, "at least one") != NULL) == (count == 0), "that there are none is told");
     require((strstr(text, "with so many regions") != NULL) == elsewhere, "a directory that stands elsewhere is told");

@@ -4,8 +4,8 @@ use Prim.Native.Nat.{ℕ, zero, suc, _+_, _*_}
 use mathlib.Core.Path.{_≡_, refl}
 use mathlib.Core.List.{List, [], _∷_, _++_}
 use Rattle.octets.specs.Number.{number, low}
-use Rattle.directory.specs.Directory.{trailerOf, entryOf, entries, trailer, regions, demand, entriesRefusal, refusal}
-use Rattle.image.specs.Image.{many, segment, segmentOf, Piece}
+use Rattle.directory.specs.Directory.{trailerOf, entryOf, entries, regions, demand, entriesRefusal, refusal}
+use Rattle.image.specs.Image.{many, segment, segmentOf}
 use Rattle.image.specs.Before.{refusalBefore}
 
 -- the bytes i, i + 1 and so on, n of them

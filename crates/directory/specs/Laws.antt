@@ -10,7 +10,7 @@ use lib.Seq.{drop-drop}
 use borrow.Author.Tests.{leb-true, eqb-true, eqb-false}
 use Rattle.octets.specs.Number.{Octets}
 use Rattle.octets.specs.NumberLaws.{part-bound}
-use Rattle.directory.specs.Directory.{addresses, mostEntries, trailerOf, trailer, entryAt, entries, ending, bytes, nowhere}
+use Rattle.directory.specs.Directory.{addresses, mostEntries, trailerOf, trailer, entryAt, entries, ending, nowhere}
 use Rattle.directory.specs.Directory.{demand, first, trailerRefusal, entryRefusal, entriesRefusal}
 use Rattle.directory.specs.declared.Trailer.{Trailer}
 use Rattle.directory.specs.declared.Region.{Region}

@@ -9,8 +9,7 @@ use Rattle.octets.specs.Number.{word}
 use Rattle.directory.specs.declared.Trailer.{Trailer}
 use Rattle.directory.specs.declared.Region.{Region}
 use Rattle.directory.specs.Directory.{trailer, entries, regions, demand, first, entriesRefusal}
-use Rattle.image.specs.Image.{widest, cutRefusal, many, segment, tallied}
-use Rattle.image.specs.declared.Tally.{Tally}
+use Rattle.image.specs.Image.{widest, cutRefusal, many, segment}
 
 -- the most entries of a directory
 abbrev pub mostBefore : ℕ
@@ -49,12 +48,8 @@ refusalBefore file =
 abbrev pub cutRefusalBefore : List ℕ → ℕ → ℕ
 cutRefusalBefore file S = demand (leb 1 S) 10 (demand (leb S widest) 10 (refusalBefore file))
 
--- what `survey` answered
-abbrev pub surveyedBefore : List ℕ → ℕ → ℕ → Tally
-surveyedBefore file S i = tallied (cutRefusalBefore file S) (trailerBefore file) S i (regionsBefore file)
-
 -- a file that was accepted is accepted, and read to the same regions, transfer address and segments
-pub record Kept (file : List ℕ) (S : ℕ) : Type 0 where
+pub record Unchanged (file : List ℕ) (S : ℕ) : Type 0 where
   pub accepted : cutRefusal file S ≡ 0
   pub regions-are : regions file ≡ regionsBefore file
   pub transfer-is : trailer file .transfer ≡ trailerBefore file .transfer

@@ -6,7 +6,6 @@ use lib.ListN.{length}
 use borrow.Author.Needs.{needs}
 use borrow.Author.Tests.{ne-eqb}
 use Rattle.directory.specs.Directory.{addresses, entries}
-use Rattle.image.specs.Image.{parts}
 use Rattle.directory.specs.Laws.{Fit, fit}
 use Rattle.image.specs.PartsLaws.{parts-bound}
 use Rattle.image.proofs.walk.Statement.{statement}
