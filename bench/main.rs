@@ -1,7 +1,7 @@
 //! How long the proved library takes beside the plain implementation: the
 //! reader, the image check, the segment call, a load's step that sends and one
-//! that only counts, a machine's step on a load and on a code 20, and a dump
-//! between two ends.
+//! that only counts, a machine's step on a load and on a code 20, a dump
+//! between two ends, and whole loads of many regions and of few.
 //!
 //! Both get the same inputs in one run, in turns, and borrow what they read:
 //! neither allocates, and but for the ends' steps no buffer is written.
