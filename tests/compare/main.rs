@@ -60,6 +60,15 @@ fn main() -> ExitCode {
         },
     };
     let runs: Vec<(Tally, bool)> = seeds.into_iter().map(run).collect();
+    print_sums(&runs);
+    if runs.iter().all(|(_, good)| *good) {
+        ExitCode::SUCCESS
+    } else {
+        ExitCode::FAILURE
+    }
+}
+
+fn print_sums(runs: &[(Tally, bool)]) {
     let sum = |count: fn(&Tally) -> u64| runs.iter().map(|(tally, _)| count(tally)).sum();
     println!(
         "compare: {} steps with a count at 2^64 - 1, {} with one below, {} sessions summed up",
@@ -89,11 +98,6 @@ fn main() -> ExitCode {
         commas(sum(|tally| tally.steps)),
         commas(sum(|tally| tally.differences)),
     );
-    if runs.iter().all(|(_, good)| *good) {
-        ExitCode::SUCCESS
-    } else {
-        ExitCode::FAILURE
-    }
 }
 
 fn fresh_seed() -> u64 {
