@@ -54,7 +54,7 @@ add-stop c = search needs
 loop-holds : tie.Need-loop-holds Inv-loop μ-loop
 loop-holds c =
     let began = c .before .before .before in
-    (began .args .t .count, omega arith, began .pre .0, omega arith, omega arith, start _ _ _ _ _ _)
+    (began .args .t .count, omega arith, omega (arith, began .pre .0), omega arith, omega arith, start _ _ _ _ _ _)
 
 read-entry-requires : tie.Need-read-entry-requires Inv-loop μ-loop
 read-entry-requires c κs = omega arith
