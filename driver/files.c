@@ -134,8 +134,7 @@ void aside_remove(aside *a)
 
 /* ---- A file that replaces nothing unasked ---------------------------- */
 
-/* What is no regular file, in words; NULL for one that is. */
-static const char *kind_words(mode_t mode)
+const char *kind_words(mode_t mode)
 {
     switch (mode & S_IFMT) {
     case S_IFREG:

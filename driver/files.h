@@ -5,6 +5,7 @@
 #include <stdbool.h>
 #include <stddef.h>
 #include <stdint.h>
+#include <sys/types.h>
 
 typedef struct contents {
     uint8_t *bytes;
@@ -14,6 +15,9 @@ typedef struct contents {
 /* A file of at most most bytes: 0, or an exit status with the reason said.
  * The caller frees bytes. */
 int file_read(const char *path, size_t most, contents *file);
+
+/* What is no regular file, in words ("a directory"); NULL for one that is. */
+const char *kind_words(mode_t mode);
 
 /* A file that is written aside, as PATH.part, and gets its name when it is
  * whole and on the disk. */

@@ -1,15 +1,14 @@
 #include "dumping.h"
 
+#include <ctype.h>
 #include <inttypes.h>
 #include <stdlib.h>
 #include <string.h>
 
 #include "files.h"
-#include "record.h"
+#include "recorded.h"
 #include "sha256.h"
 #include "words.h"
-
-#define RECORD_MOST 1048576 /* bytes of a record that is read */
 
 /* ---- Before the machine is asked ------------------------------------- */
 
@@ -43,10 +42,31 @@ static int take_machine(dumping *d)
     return 0;
 }
 
+/* Whether the part is the one that the record tells of, and how many of its bytes are taken up. Of a dump that was not
+ * over the record has no sum: what lies behind the bytes that it tells may never have got to the disk. */
+static int check_part(dumping *d, const contents *came)
+{
+    static recorded r;
+    char sum[SHA256_TEXT];
+    const char *name = d->copies[0].part.name;
+    const recorded_file *told = &r.files[0];
+    if (!recorded_read((const uint8_t *)d->earlier, strlen(d->earlier), &r))
+        return complain(STATUS_FILE, "%s is damaged: %s", d->record.name, r.damage);
+    if (told->more && came->length < told->length)
+        return complain(STATUS_FILE,
+            "%s is not the one that its record tells of: it has %zu bytes, and the record says %" PRIu64 " or more",
+            name, came->length, told->length);
+    sha256_text(came->bytes, came->length, sum);
+    if (!told->more && strcmp(told->sum, sum) != 0)
+        return complain(STATUS_FILE, "%s is not the one that its record tells of", name);
+    d->before = told->more && !told->uncounted ? told->length : came->length;
+    return 0;
+}
+
 /* Whether the record of the earlier run is about the same dump. */
 static int check_earlier(dumping *d, const contents *came)
 {
-    char range[64] = "", sum[SHA256_TEXT];
+    char range[64] = "";
     size_t length = 0;
     FILE *out = fmemopen(range, sizeof range, "w");
     if (out != NULL) {
@@ -57,38 +77,61 @@ static int check_earlier(dumping *d, const contents *came)
         return complain(STATUS_FILE, "%s.record is of another range: --resume does not fit", d->path);
     if (record_find(d->earlier, "twice: first differ", &length) != NULL)
         return complain(STATUS_FILE, "%s.part is one of two dumps that differ: dump again", d->path);
-    const char *said = record_find(d->earlier, "sha256: ", &length);
-    sha256_text(came->bytes, came->length, sum);
-    if (said != NULL && strncmp(said, sum, strlen(sum)) != 0)
-        return complain(STATUS_FILE, "%s is not the one that its record tells of", d->copies[0].part.name);
-    return take_machine(d);
+    int status = check_part(d, came);
+    return status != 0 ? status : take_machine(d);
 }
 
-/* Takes up what an earlier run brought: the session asks for the rest. */
+/* A machine that was restarted in an earlier run was so for the dump. */
+static void take_offers(dumping *d)
+{
+    size_t length = 0;
+    const char *said = record_find(d->earlier, "offers: ", &length);
+    const unsigned long long offers = said == NULL || !isdigit((unsigned char)*said) ? 0 : strtoull(said, NULL, 10);
+    d->copies[0].offers = offers < UINT32_MAX ? offers : UINT32_MAX;
+    d->doubt = offers > 0;
+}
+
+/* The session asks for the rest. */
+static int take_bytes(dumping *d, const contents *came)
+{
+    part *p = &d->copies[0].part;
+    if (d->before < came->length) {
+        printf("Of the %zu bytes in %s the first %" PRIu64
+               " are known to be on the disk: the others are asked again.\n",
+            came->length, p->name, d->before);
+        int status = part_cut(p, d->range.length, d->before);
+        if (status != 0)
+            return status;
+    }
+    part_sync(p);
+    take_offers(d);
+    memcpy(d->copies[0].bytes, came->bytes, (size_t)d->before);
+    d->settings.address += (uint32_t)d->before;
+    d->settings.length -= d->before;
+    return 0;
+}
+
+/* Takes up what an earlier run brought. */
 static int take_up(dumping *d)
 {
     contents came = {NULL, 0}, text = {NULL, 0};
-    char *name = name_with(d->path, ".part"), *record = name_with(d->path, ".record");
-    int status = name != NULL && record != NULL ? 0 : STATUS_OTHER;
+    char *name = name_with(d->path, ".part");
+    int status = name != NULL ? 0 : STATUS_OTHER;
     if (status == 0)
         status = file_read(name, (size_t)d->range.length, &came);
     if (status == 0)
-        status = file_read(record, RECORD_MOST, &text);
+        status = file_read(d->record.name, RECORDED_MOST, &text);
     if (status == 0)
         status = part_again(&d->copies[0].part, d->path, d->range.length, came.length, &d->mode);
     d->earlier = strndup(text.bytes == NULL ? "" : (const char *)text.bytes, text.length);
     if (status == 0)
         status = d->earlier == NULL ? complain(STATUS_OTHER, "no memory") : check_earlier(d, &came);
-    if (status == 0) {
-        memcpy(d->copies[0].bytes, came.bytes, came.length);
-        d->before = came.length;
-        d->settings.address += (uint32_t)came.length;
-        d->settings.length -= came.length;
-    }
+    d->record.mode = d->mode;
+    if (status == 0)
+        status = take_bytes(d, &came);
     free(came.bytes);
     free(text.bytes);
     free(name);
-    free(record);
     return status;
 }
 
@@ -115,7 +158,8 @@ static void unmake_files(dumping *d)
 int filing_prepare(dumping *d)
 {
     d->settings = d->range;
-    int status = name_is_free(d->path, "");
+    d->record = (record){.name = name_with(d->path, ".record"), .mode = d->mode};
+    int status = d->record.name == NULL ? STATUS_OTHER : name_is_free(d->path, "");
     for (size_t i = 0; i < (d->twice ? 2 : 1) && status == 0; i++)
         status = make_room(d, &d->copies[i]);
     if (status == 0)
@@ -128,36 +172,49 @@ int filing_prepare(dumping *d)
     return status;
 }
 
+/* ---- While it is under way ------------------------------------------- */
+
+void filing_step(dumping *d)
+{
+    copy *now = d->now;
+    const uint64_t came = dumping_came(d, now), tenth = 10 * came / d->range.length;
+    const bool begins = !now->session.waiting && d->begun != now, doubt = dumping_offers(d) > 0;
+    part_grow(&now->part, now->bytes, came);
+    if (now->session.verdict != MOP_DUMP_RUNNING || (!begins && tenth == d->tenth && doubt == d->doubt))
+        return;
+    if (d->since == 0)
+        d->since = time(NULL);
+    if (begins)
+        d->begun = now;
+    d->tenth = tenth;
+    d->doubt = doubt;
+    part_sync(&d->copies[0].part);
+    part_sync(&now->part);
+    (void)report_running(d);
+}
+
 /* ---- When it is over ------------------------------------------------- */
 
 /* How it ended: the verdict, or the signal or error that came before it. */
 static const char *ending(const dumping *d, int status)
 {
-    switch (status) {
-    case STATUS_INTERRUPTED:
-        return "interrupted by a signal";
-    case STATUS_SILENT:
-        return d->now == d->copies ? "no machine asked" : "finished once; no machine asked the second time";
-    case STATUS_SHARED:
-        return "broken off: another program on this computer sent from the same address";
-    case STATUS_DIFFERENT:
+    if (status == STATUS_SILENT && d->now != d->copies)
+        return "finished once; no machine asked the second time";
+    if (status == STATUS_DIFFERENT)
         return "finished twice, and the two are not equal";
-    case 0:
-        return verdict_words(d->now->session.verdict);
-    default:
-        return "broken off by an error";
-    }
+    return ending_words(status, d->now->session.verdict);
 }
 
-/* Nothing came: all is as it was. */
+/* Nothing came: no file is left, or the earlier one and its record. */
 static int file_nothing(dumping *d)
 {
     if (d->resume) {
-        printf("Nothing came: %s and its record are as they were.\n", d->copies[0].part.name);
-        return record_put(d->path, d->earlier, d->mode);
+        printf("Nothing came: the first %" PRIu64 " bytes of %s and its record are as they were.\n", d->before,
+            d->copies[0].part.name);
+        return record_put(&d->record, d->earlier);
     }
     unmake_files(d);
-    record_remove(d->path);
+    record_remove(&d->record);
     printf("Nothing came, and no file is left.\n");
     return 0;
 }
@@ -199,13 +256,9 @@ static int file_failed(dumping *d)
 }
 
 /* The record has the sum before the file has its name. */
-static void report_before_name(const dumping *d)
+static void report_before_name(dumping *d)
 {
-    char *file = NULL;
-    if (asprintf(&file, "%s, to be named %s", d->copies[0].part.name, d->path) < 0)
-        return;
-    report_end(d, 0, "finished", file);
-    free(file);
+    report_end(d, 0, "finished, being named: where there is no file of this name it has .part behind it", d->path);
 }
 
 static int file_finished(dumping *d)

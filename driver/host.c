@@ -98,7 +98,7 @@ static int silence(host *h)
     if (h->calls->stage(h->job) != HOST_WAITING)
         return step(h, NULL);
     return complain(STATUS_SILENT,
-        "no machine asked within %" PRIu32 " seconds: is it on, on this line, and set to "
+        "no machine asked within %" PRIu32 " seconds for what is served: is it on, on this line, and set to "
         "boot from the network?",
         h->settings.wait);
 }
@@ -139,15 +139,10 @@ int host_run(host *h)
     printf("Waiting on %s (%s) for a request from %s.\n", h->line.name, address_text(h->line.address, own),
         h->named ? address_text(h->machine, other) : "any machine");
     fflush(stdout);
+    if (!h->named)
+        complain(0, "without --machine the first machine that asks is served, whichever it is: give --machine ADDRESS");
     h->due = clock_now() + (int64_t)h->settings.wait * 1000;
     return line_run(&h->line, &calls, h);
-}
-
-static void tell(const char *what, const direction *d)
-{
-    if (d->lost != 0 || d->doubled != 0)
-        printf("Of %" PRIu64 " frames %s, %" PRIu64 " were lost and %" PRIu64 " doubled on purpose.\n", d->frames, what,
-            d->lost, d->doubled);
 }
 
 void host_close(host *h)
@@ -155,7 +150,6 @@ void host_close(host *h)
     if (h->unreadable != 0)
         printf("%" PRIu64 " unreadable frame%s came and %s not counted.\n", h->unreadable,
             h->unreadable == 1 ? "" : "s", h->unreadable == 1 ? "was" : "were");
-    tell("sent", &h->line.out);
-    tell("received", &h->line.in);
+    line_tell(&h->line);
     line_close(&h->line);
 }

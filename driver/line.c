@@ -3,6 +3,7 @@
 #include <arpa/inet.h>
 #include <errno.h>
 #include <fcntl.h>
+#include <inttypes.h>
 #include <linux/filter.h>
 #include <linux/if_packet.h>
 #include <net/if_arp.h>
@@ -13,17 +14,15 @@
 #include <sys/ioctl.h>
 #include <sys/signalfd.h>
 #include <sys/socket.h>
-#include <sys/stat.h>
 #include <time.h>
 #include <unistd.h>
 
+#include "interface.h"
 #include "privileges.h"
 #include "words.h"
 
 #define TYPE 0x6001
-#define HEADER 14
 #define SHORTEST 60
-#define LONGEST (HEADER + LENGTH_FIELD + MOP_FRAME_MOST)
 
 const uint8_t ASSISTANCE[ADDRESS_LENGTH] = {0xAB, 0x00, 0x00, 0x01, 0x00, 0x00};
 
@@ -107,7 +106,7 @@ static int filter(line *l)
     struct sock_filter only[] = {
         BPF_STMT(BPF_LD | BPF_H | BPF_ABS, 2 * ADDRESS_LENGTH),
         BPF_JUMP(BPF_JMP | BPF_JEQ | BPF_K, TYPE, 0, 1),
-        BPF_STMT(BPF_RET | BPF_K, LONGEST + 1),
+        BPF_STMT(BPF_RET | BPF_K, LINE_LONGEST + 1),
         BPF_STMT(BPF_RET | BPF_K, 0),
     };
     struct sock_fprog program = {.len = sizeof only / sizeof only[0], .filter = only};
@@ -132,25 +131,6 @@ static int bind_interface(line *l)
     return complain(STATUS_INTERFACE, "%s cannot be used: %s", l->name, strerror(errno));
 }
 
-/* A trace has in it what a dump has. It replaces no file that holds anything; to
- * a terminal or a pipe it may go. */
-static int open_trace(line *l, const char *path)
-{
-    struct stat there;
-    if (path == NULL)
-        return 0;
-    int fd = open(path, O_WRONLY | O_CREAT | O_EXCL | O_CLOEXEC, 0600);
-    if (fd < 0 && errno == EEXIST) {
-        if (stat(path, &there) != 0 || (S_ISREG(there.st_mode) && there.st_size > 0))
-            return complain(STATUS_FILE, "%s is there already, and a trace replaces no file", path);
-        fd = open(path, O_WRONLY | O_CLOEXEC);
-    }
-    l->trace = fd < 0 ? NULL : fdopen(fd, "w");
-    if (l->trace != NULL)
-        return 0;
-    return complain(STATUS_FILE, "%s cannot be written: %s", path, strerror(errno));
-}
-
 int line_open(line *l, const line_settings *settings)
 {
     memset(l, 0, sizeof *l);
@@ -172,8 +152,10 @@ int line_open(line *l, const line_settings *settings)
     if (status == 0)
         status = privileges_drop();
     if (status == 0)
-        status = open_trace(l, settings->trace);
-    if (status != 0)
+        status = trace_open(&l->trace, settings->trace);
+    if (status == 0)
+        interface_warn(l->name, l->index);
+    else
         line_close(l);
     return status;
 }
@@ -196,9 +178,20 @@ void line_close(line *l)
     if (l->socket >= 0)
         close(l->socket);
     l->socket = -1;
-    if (l->trace != NULL && fclose(l->trace) != 0)
-        complain(STATUS_FILE, "the trace is not complete: %s", strerror(errno));
-    l->trace = NULL;
+    trace_close(&l->trace);
+}
+
+static void tell(const char *what, const direction *d)
+{
+    if (d->lost != 0 || d->doubled != 0)
+        printf("Of %" PRIu64 " frames %s, %" PRIu64 " were lost and %" PRIu64 " doubled on purpose.\n", d->frames, what,
+            d->lost, d->doubled);
+}
+
+void line_tell(const line *l)
+{
+    tell("sent", &l->out);
+    tell("received", &l->in);
 }
 
 /* ---- Sending --------------------------------------------------------- */
@@ -222,16 +215,6 @@ static int times(direction *d)
     return lost ? 0 : doubled ? 2 : 1;
 }
 
-/* A line of capital hexadecimal, as the program frames reads it. */
-static void note(line *l, const uint8_t *message, size_t length)
-{
-    if (l->trace == NULL)
-        return;
-    for (size_t i = 0; i < length; i++)
-        fprintf(l->trace, "%02X", message[i]);
-    fputc('\n', l->trace);
-}
-
 static int put(line *l, const uint8_t *frame, size_t length)
 {
     if (send(l->socket, frame, length, MSG_DONTWAIT) >= 0 || errno == ENOBUFS || errno == EAGAIN)
@@ -241,7 +224,7 @@ static int put(line *l, const uint8_t *frame, size_t length)
 
 int line_send(line *l, const uint8_t *to, const uint8_t *message, size_t length)
 {
-    uint8_t frame[LONGEST] = {0};
+    uint8_t frame[LINE_LONGEST] = {0};
     if (length > l->longest)
         return complain(STATUS_INTERFACE, "a message of %zu bytes is too long for %s, which takes %u", length, l->name,
             (unsigned)l->longest);
@@ -249,15 +232,15 @@ int line_send(line *l, const uint8_t *to, const uint8_t *message, size_t length)
     memcpy(frame + ADDRESS_LENGTH, l->address, ADDRESS_LENGTH);
     frame[12] = TYPE >> 8;
     frame[13] = TYPE & 0xFF;
-    frame[HEADER] = (uint8_t)(length & 0xFF);
-    frame[HEADER + 1] = (uint8_t)(length >> 8);
-    memcpy(frame + HEADER + LENGTH_FIELD, message, length);
-    size_t whole = HEADER + LENGTH_FIELD + length;
+    frame[LINE_HEADER] = (uint8_t)(length & 0xFF);
+    frame[LINE_HEADER + 1] = (uint8_t)(length >> 8);
+    memcpy(frame + LINE_HEADER + LENGTH_FIELD, message, length);
+    size_t whole = LINE_HEADER + LENGTH_FIELD + length;
+    whole = whole < SHORTEST ? SHORTEST : whole;
+    trace_note(&l->trace, &(trace_frame){frame, whole, whole, message, length});
     int status = 0;
-    for (int n = times(&l->out); n > 0 && status == 0; n--) {
-        note(l, message, length);
-        status = put(l, frame, whole < SHORTEST ? SHORTEST : whole);
-    }
+    for (int n = times(&l->out); n > 0 && status == 0; n--)
+        status = put(l, frame, whole);
     return status;
 }
 
@@ -266,7 +249,7 @@ int line_send(line *l, const uint8_t *to, const uint8_t *message, size_t length)
 /* Whether raw bytes are a message for this end; then they are cut out. */
 static bool cut(const line *l, const uint8_t *raw, size_t length, line_frame *frame)
 {
-    if (length < HEADER + LENGTH_FIELD || raw[12] != TYPE >> 8 || raw[13] != (TYPE & 0xFF))
+    if (length < LINE_HEADER + LENGTH_FIELD || raw[12] != TYPE >> 8 || raw[13] != (TYPE & 0xFF))
         return false;
     frame->multicast = memcmp(raw, ASSISTANCE, ADDRESS_LENGTH) == 0;
     if (!frame->multicast && memcmp(raw, l->address, ADDRESS_LENGTH) != 0)
@@ -274,21 +257,23 @@ static bool cut(const line *l, const uint8_t *raw, size_t length, line_frame *fr
     memcpy(frame->from, raw + ADDRESS_LENGTH, ADDRESS_LENGTH);
     if (memcmp(frame->from, l->address, ADDRESS_LENGTH) == 0)
         return false;
-    frame->length = raw[HEADER] + ((size_t)raw[HEADER + 1] << 8);
-    if (frame->length > MOP_FRAME_MOST || frame->length > length - HEADER - LENGTH_FIELD)
+    frame->length = raw[LINE_HEADER] + ((size_t)raw[LINE_HEADER + 1] << 8);
+    if (frame->length > MOP_FRAME_MOST || frame->length > length - LINE_HEADER - LENGTH_FIELD)
         return false;
-    memcpy(frame->bytes, raw + HEADER + LENGTH_FIELD, frame->length);
+    memcpy(frame->bytes, raw + LINE_HEADER + LENGTH_FIELD, frame->length);
     return true;
 }
 
 /* Whether the frame carried a VLAN tag, which the kernel has cut out: then it
- * is not from this line, although its addresses may be. */
-static bool tagged(struct msghdr *message)
+ * is not from this line, although its addresses may be; and the length that the frame
+ * had. */
+static bool tagged(struct msghdr *message, size_t *whole)
 {
     struct tpacket_auxdata word;
     for (struct cmsghdr *c = CMSG_FIRSTHDR(message); c != NULL; c = CMSG_NXTHDR(message, c))
         if (c->cmsg_level == SOL_PACKET && c->cmsg_type == PACKET_AUXDATA) {
             memcpy(&word, CMSG_DATA(c), sizeof word);
+            *whole = word.tp_len;
             return (word.tp_status & TP_STATUS_VLAN_VALID) != 0;
         }
     return true; /* nothing is said of it */
@@ -306,16 +291,14 @@ static line_event judge(const line *l, uint8_t type, const uint8_t *raw, size_t 
     return cut(l, raw, length, frame) ? LINE_FRAME : LINE_QUIET;
 }
 
-/* Takes one frame from the socket. */
-static line_event take(line *l, line_frame *frame)
+line_event line_take(const line *l, line_raw *raw)
 {
-    uint8_t raw[LONGEST + 1] = {0};
     union {
         char bytes[CMSG_SPACE(sizeof(struct tpacket_auxdata))];
         struct cmsghdr aligned;
     } beside;
     struct sockaddr_ll from = {0};
-    struct iovec room = {.iov_base = raw, .iov_len = sizeof raw};
+    struct iovec room = {.iov_base = raw->bytes, .iov_len = sizeof raw->bytes};
     struct msghdr message = {.msg_name = &from,
         .msg_namelen = sizeof from,
         .msg_iov = &room,
@@ -329,22 +312,35 @@ static line_event take(line *l, line_frame *frame)
         complain(STATUS_INTERFACE, "%s does not receive: %s", l->name, strerror(errno));
         return LINE_BROKEN;
     }
-    return tagged(&message) ? LINE_QUIET : judge(l, from.sll_pkttype, raw, (size_t)got, frame);
+    raw->length = raw->whole = (size_t)got;
+    raw->type = from.sll_pkttype;
+    raw->tagged = tagged(&message, &raw->whole);
+    return LINE_FRAME;
 }
 
-/* A message has come: noted, and perhaps lost or doubled on purpose. */
-static line_event hand_over(line *l, const line_frame *frame)
+/* A message has come: perhaps lost or doubled on purpose. It is noted as often as it is handed over. */
+static line_event hand_over(line *l, const line_raw *raw, const line_frame *frame)
 {
-    note(l, frame->bytes, frame->length);
-    int n = times(&l->in);
+    const int n = times(&l->in);
     l->again = n == 2;
     if (l->again)
         l->last = *frame;
+    for (int i = 0; i < n; i++)
+        trace_note(&l->trace, &(trace_frame){raw->bytes, raw->length, raw->whole, frame->bytes, frame->length});
     return n == 0 ? LINE_QUIET : LINE_FRAME;
 }
 
-/* Waits until there is something to take. */
-static line_event await(const line *l, int64_t deadline)
+/* Takes one frame from the socket, if it is a message for this end. */
+static line_event take(line *l, line_frame *frame)
+{
+    line_raw raw = {0};
+    line_event event = line_take(l, &raw);
+    if (event == LINE_FRAME)
+        event = raw.tagged ? LINE_QUIET : judge(l, raw.type, raw.bytes, raw.length, frame);
+    return event == LINE_FRAME ? hand_over(l, &raw, frame) : event;
+}
+
+line_event line_await(const line *l, int64_t deadline)
 {
     int64_t left = deadline - clock_now();
     left = left < 0 ? 0 : left;
@@ -364,11 +360,9 @@ line_event line_receive(line *l, line_frame *frame, int64_t deadline)
         return LINE_FRAME;
     }
     for (;;) {
-        line_event event = await(l, deadline);
+        line_event event = line_await(l, deadline);
         if (event == LINE_FRAME)
             event = take(l, frame);
-        if (event == LINE_FRAME)
-            event = hand_over(l, frame);
         if (event != LINE_QUIET || clock_now() >= deadline)
             return event;
     }

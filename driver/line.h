@@ -8,13 +8,15 @@
 #include <stdbool.h>
 #include <stddef.h>
 #include <stdint.h>
-#include <stdio.h>
 
 #include "mop.h"
+#include "trace.h"
 
 #define ADDRESS_LENGTH 6
 #define ADDRESS_TEXT 18 /* 08-00-2B-AA-BB-CC and its end */
 #define LENGTH_FIELD 2
+#define LINE_HEADER 14 /* of an Ethernet frame */
+#define LINE_LONGEST (LINE_HEADER + LENGTH_FIELD + MOP_FRAME_MOST)
 
 /* AB-00-00-01-00-00, to which a machine sends its request */
 extern const uint8_t ASSISTANCE[ADDRESS_LENGTH];
@@ -51,7 +53,7 @@ typedef struct line {
     line_frame last; /* handed over once more if again is set */
     bool again;
     bool alone; /* no other program here may send from this address */
-    FILE *trace;
+    trace trace;
 } line;
 
 /* What all programs on the line are told. */
@@ -78,8 +80,25 @@ int line_send(line *l, const uint8_t *to, const uint8_t *message, size_t length)
 /* The next message for this end, until the clock shows the deadline. */
 line_event line_receive(line *l, line_frame *frame, int64_t deadline);
 
+/* Prints what was lost and doubled on purpose, if anything was. */
+void line_tell(const line *l);
+
 /* Throws away what has come and was not received. */
 void line_empty(line *l);
+
+/* A frame as the socket hands it over, whomever it is for. */
+typedef struct line_raw {
+    uint8_t bytes[LINE_LONGEST + 1];
+    size_t length;
+    size_t whole; /* the length that it had, if it was longer */
+    uint8_t type; /* PACKET_.. of the kernel */
+    bool tagged;  /* it carried a VLAN tag, which the kernel has cut out */
+} line_raw;
+
+/* For a program that only listens: waits until there is something to take, and
+ * takes one frame: LINE_FRAME, LINE_QUIET if there is none, or LINE_BROKEN. */
+line_event line_await(const line *l, int64_t deadline);
+line_event line_take(const line *l, line_raw *raw);
 
 /* The end that a program is. A call that gives not 0 ends the run with it. */
 typedef struct line_end {

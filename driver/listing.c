@@ -4,11 +4,7 @@
 
 #include "pieces.h"
 
-typedef struct entry {
-    uint64_t address;
-    uint64_t offset;
-    uint64_t length;
-} entry;
+typedef image_entry entry;
 
 static uint64_t number(const uint8_t *bytes, int length)
 {
@@ -35,6 +31,11 @@ static void print_entry(FILE *out, uint64_t i, entry e)
 static const uint8_t *directory_of(const contents *file, mop_image image)
 {
     return file->bytes + file->length - IMAGE_TRAILER - (size_t)IMAGE_ENTRY * image.regions;
+}
+
+image_entry image_entry_at(const contents *file, mop_image image, uint32_t region)
+{
+    return entry_at(directory_of(file, image), region);
 }
 
 /* Regions stand in the order of their addresses. */

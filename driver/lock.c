@@ -55,8 +55,8 @@ static int taken(int index, const char *interface)
     char name[NAME_MOST];
     pid_t process = holder(index);
     if (process == 0)
-        return complain(
-            STATUS_IN_USE, "%s is in use by another mopload or mopdump: one host program at a time", interface);
+        return complain(STATUS_IN_USE,
+            "%s is in use by another mopload, mopdump or moploop: one host program at a time", interface);
     program_of(process, name);
     return complain(STATUS_IN_USE,
         "%s is in use by %s, process %d: one host program at a time; wait for its end, or end it (kill %d)", interface,

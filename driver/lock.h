@@ -1,4 +1,4 @@
-/* lock.h: one mopload or mopdump at a time on an interface. Two would send from
+/* lock.h: one mopload, mopdump or moploop at a time on an interface. Two would send from
  * one address and hear each other's replies, and both would report a load that
  * neither has done. */
 #ifndef LOCK_H

@@ -4,11 +4,12 @@
 #include <stdlib.h>
 
 #include "dumping.h"
+#include "filed.h"
 #include "words.h"
 
 #define REPLY_REST (MOP_FRAME_MOST - MOP_DUMP_DATA_MOST) /* what code 14 has beside the data */
 
-enum { OPTION_FROM = OPTION_JOB, OPTION_LENGTH, OPTION_MODE, OPTION_TWICE, OPTION_RESUME };
+enum { OPTION_FROM = OPTION_JOB, OPTION_LENGTH, OPTION_MODE, OPTION_TWICE, OPTION_RESUME, OPTION_VERIFY };
 
 /* ---- The dump as the host runs it ------------------------------------ */
 
@@ -26,15 +27,27 @@ static void before(void *job, line_frame *frame)
         d->now->offers += 1;
 }
 
+static void tell_begun(const dumping *d)
+{
+    char machine[ADDRESS_TEXT];
+    printf("Dumping %s, which says it has %" PRIu32 " bytes of memory.\n", address_text(d->host->machine, machine),
+        d->offer.memory_size);
+    fflush(stdout);
+}
+
 static mop_written step(
     void *job, bool timer, const uint8_t *frame, size_t frame_length, uint8_t *reply, size_t reply_length)
 {
     dumping *d = job;
     uint8_t *buffer = d->now->bytes + d->before;
-    if (timer)
-        return mop_dump_update_timer(d->settings, &d->now->session, buffer, d->settings.length, reply, reply_length);
-    return mop_dump_update_frame(
-        d->settings, &d->now->session, frame, frame_length, buffer, d->settings.length, reply, reply_length);
+    mop_written written =
+        timer ? mop_dump_update_timer(d->settings, &d->now->session, buffer, d->settings.length, reply, reply_length)
+              : mop_dump_update_frame(d->settings, &d->now->session, frame, frame_length, buffer, d->settings.length,
+                    reply, reply_length);
+    if (d->begun != d->now && !d->now->session.waiting)
+        tell_begun(d);
+    filing_step(d);
+    return written;
 }
 
 /* A step that begins does not write to the buffer. */
@@ -54,24 +67,11 @@ static host_stage stage(const void *job)
     return host_stage_of(session->waiting, session->verdict, session->filled);
 }
 
-static void tell_begun(dumping *d)
-{
-    char machine[ADDRESS_TEXT];
-    printf("Dumping %s, which says it has %" PRIu32 " bytes of memory.\n", address_text(d->host->machine, machine),
-        d->offer.memory_size);
-    fflush(stdout);
-    d->begun = d->now;
-    report_under_way(d); /* the machine is known now */
-}
-
-/* What came goes to the disk at once. */
 static void after(void *job)
 {
     dumping *d = job;
-    if (d->begun != d->now && !d->now->session.waiting)
-        tell_begun(d);
-    part_grow(&d->now->part, d->now->bytes, dumping_came(d, d->now));
-    progress_show(&d->progress, dumping_came(d, d->now));
+    if (!d->now->session.waiting)
+        progress_show(&d->progress, dumping_came(d, d->now), dumping_repeats(&d->now->session));
 }
 
 static const host_job calls = {before, step, begins, stage, after};
@@ -85,6 +85,7 @@ static const char manual[] = "NAME\n"
                              "  mopdump -i INTERFACE --from ADDRESS --length N -o FILE [--twice | --resume]\n"
                              "          [--mode MODE] [--machine ADDRESS] [-C N] [-R N] [--timer MS]\n"
                              "          [--wait S] [--trace FILE]\n"
+                             "  mopdump --verify FILE\n"
                              "\n"
                              "DESCRIPTION\n"
                              "  Waits for a machine to offer a dump, asks for N bytes of its memory from\n"
@@ -95,15 +96,20 @@ static const char manual[] = "NAME\n"
                              "  dump is finished and on the disk. If it is not finished there is no FILE,\n"
                              "  and what came stays in FILE.part, however the program ended. FILE.record\n"
                              "  tells in either case what happened: the verdict, the session's numbers and\n"
-                             "  counts (THE LINE, below), the range, the date, the SHA-256 of the file. It\n"
-                             "  is there from the beginning; of a program that was killed it says that\n"
-                             "  FILE.part has as many bytes as came. If nothing came no file is left.\n"
+                             "  counts (THE LINE, below), the range, the dates, the SHA-256 of the file. It\n"
+                             "  is there from the beginning, and is replaced as a whole when the dump\n"
+                             "  begins, at each tenth, when the machine offers again in the middle, and at\n"
+                             "  the end. Of a program that was killed it says how many bytes are in FILE.part\n"
+                             "  at least. If nothing came no file is left.\n"
+                             "\n"
+                             "  sha256sum -c FILE.record, in its directory, checks the file; it warns of the\n"
+                             "  record's other lines. mopreport reads the records of a directory.\n"
                              "\n"
                              "  FILE, FILE.part and FILE.record must not be there: a dump replaces no\n"
                              "  file. Room for the whole dump is taken before the machine is asked.\n"
                              "\n"
-                             "  One host dumps a machine at a time. A second mopload or mopdump on the\n"
-                             "  interface is refused. If any other program on this computer sends MOP\n"
+                             "  One host dumps a machine at a time. A second mopload, mopdump or moploop\n"
+                             "  on the interface is refused. If any other program on this computer sends MOP\n"
                              "  frames from the same address the dump is broken off.\n"
                              "\n"
                              "OPTIONS\n"
@@ -119,7 +125,15 @@ static const char manual[] = "NAME\n"
                              "  --resume\n"
                              "        Go on from the FILE.part of an earlier run with the same range and\n"
                              "        machine. The record tells at which byte: what the machine changed in\n"
-                             "        its memory between the two runs, the dump does not show.\n"
+                             "        its memory between the two runs, the dump does not show. If the\n"
+                             "        earlier run was killed, or the computer failed, only the bytes are\n"
+                             "        kept that its record says are on the disk; what FILE.part has behind\n"
+                             "        them, as a rule less than a tenth, is cut off and asked again.\n"
+                             "  --verify FILE\n"
+                             "        Read FILE, or FILE.part, again and compare its length and SHA-256 with\n"
+                             "        what FILE.record tells. No line is opened and no machine asked. The\n"
+                             "        record of a dump that is not over, or was killed, has no SHA-256 yet:\n"
+                             "        then only the length is looked at, and the status is 16.\n"
                              "  --mode MODE\n"
                              "        The permissions of the files, in octal as for chmod. Default 600: a\n"
                              "        memory may hold what is not for everyone.\n"
@@ -134,20 +148,23 @@ static const char manual[] = "NAME\n"
                              "        frame. It costs waiting: R + 1 times --timer for a machine that no\n"
                              "        longer answers.\n";
 
-static void help(void)
+static void help(FILE *out)
 {
-    fputs(manual, stdout);
-    common_help(stdout, "a machine's offer");
-    counts_help(stdout);
-    words_statuses(stdout, STATUS_FINISHED, STATUS_OTHER);
-    words_statuses(stdout, STATUS_GIVEN_UP, STATUS_GIVEN_UP);
-    words_statuses(stdout, STATUS_SILENT, STATUS_DIFFERENT);
-    words_statuses(stdout, STATUS_USAGE, STATUS_PERMISSION);
-    words_statuses(stdout, STATUS_FILE, STATUS_IN_USE);
-    fputs("\n"
-          "EXAMPLE\n"
-          "  mopdump -i eth0 --from 0 --length 0x40000 -o pdp11.dump\n",
-        stdout);
+    fputs(manual, out);
+    common_help(out, "a machine's offer");
+    counts_help(out);
+    words_statuses(out, STATUS_FINISHED, STATUS_OTHER);
+    words_statuses(out, STATUS_GIVEN_UP, STATUS_GIVEN_UP);
+    words_statuses(out, STATUS_SILENT, STATUS_DIFFERENT);
+    words_statuses(out, STATUS_USAGE, STATUS_PERMISSION);
+    words_statuses(out, STATUS_FILE, STATUS_MISMATCH);
+    fputs("      (also where --verify finds no SHA-256 to compare)\n"
+          "\n"
+          "EXAMPLES\n"
+          "  mopdump -i eth0 --machine 08-00-2B-AA-BB-CC --from 0 --length 0x40000 \\\n"
+          "          -o pdp11.dump\n"
+          "  mopdump --verify pdp11.dump\n",
+        out);
 }
 
 static int option(int c, const char *value, host *h, dumping *d)
@@ -171,13 +188,20 @@ static int option(int c, const char *value, host *h, dumping *d)
     case OPTION_RESUME:
         d->resume = true;
         return 0;
+    case OPTION_VERIFY:
+        d->verify = value;
+        return 0;
     default:
         return host_option(h, c, value, &d->range.repeats);
     }
 }
 
-static int check_options(const dumping *d)
+static int check_options(const host *h, const dumping *d)
 {
+    if (d->verify != NULL && (d->path != NULL || d->from || h->settings.line.interface != NULL))
+        return complain(STATUS_USAGE, "--verify FILE stands alone: no line is opened (see --help)");
+    if (d->verify != NULL)
+        return 0;
     if (!d->from || d->range.length == 0 || d->path == NULL || d->path[0] == '\0')
         return complain(STATUS_USAGE, "give --from ADDRESS, --length N and -o FILE (see --help)");
     if (d->twice && d->resume)
@@ -192,7 +216,8 @@ static int options(int count, char **words, host *h, dumping *d)
     static const struct option known[] = {HOST_OPTIONS, {"output", required_argument, NULL, 'o'},
         {"count", required_argument, NULL, 'C'}, {"from", required_argument, NULL, OPTION_FROM},
         {"length", required_argument, NULL, OPTION_LENGTH}, {"mode", required_argument, NULL, OPTION_MODE},
-        {"twice", no_argument, NULL, OPTION_TWICE}, {"resume", no_argument, NULL, OPTION_RESUME}, {NULL, 0, NULL, 0}};
+        {"twice", no_argument, NULL, OPTION_TWICE}, {"resume", no_argument, NULL, OPTION_RESUME},
+        {"verify", required_argument, NULL, OPTION_VERIFY}, {NULL, 0, NULL, 0}};
     for (int c = 0; (c = getopt_long(count, words, "i:o:C:R:h", known, NULL)) != -1;) {
         int status = option(c, optarg, h, d);
         if (status != 0)
@@ -200,7 +225,7 @@ static int options(int count, char **words, host *h, dumping *d)
     }
     if (optind != count)
         return complain(STATUS_USAGE, "'%s' is too much (see --help)", words[optind]);
-    return check_options(d);
+    return check_options(h, d);
 }
 
 /* ---- The run --------------------------------------------------------- */
@@ -249,23 +274,25 @@ static int run(host *h, dumping *d)
 
 int main(int count, char **words)
 {
-    static host h = {.settings = {.timer = 2000, .wait = 600, .help = help}, .calls = &calls};
+    static host h = {.settings = {.timer = 2000, .wait = 600, .program = {.write = help}}, .calls = &calls};
     /* A dump is alike under both versions. */
     static dumping d = {.range = {.request_bytes = 1024, .repeats = 16, .version = MOP_VERSION_3_0}, .mode = 0600};
+    h.settings.program.words = words;
     h.job = &d;
     d.host = &h;
     d.now = &d.copies[0];
     d.copies[0].part.fd = d.copies[1].part.fd = -1;
     words_program("mopdump");
     int status = options(count, words, &h, &d);
-    if (status == 0)
-        status = process_begin();
-    if (status == 0)
+    if (status == 0 && d.verify != NULL)
+        status = filed_verify(d.verify);
+    else if (status == 0 && (status = process_begin()) == 0)
         status = run(&h, &d);
     for (size_t i = 0; i < 2; i++) {
         part_close(&d.copies[i].part);
         free(d.copies[i].bytes);
     }
     free(d.earlier);
+    free(d.record.name);
     return status;
 }

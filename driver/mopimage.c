@@ -4,10 +4,10 @@
 #include <inttypes.h>
 #include <stdio.h>
 #include <stdlib.h>
-#include <string.h>
 
 #include "files.h"
 #include "hexfiles.h"
+#include "lda.h"
 #include "listing.h"
 #include "mop.h"
 #include "options.h"
@@ -16,7 +16,16 @@
 
 #define LISTED 20 /* regions that are told of an image when it is made */
 
-enum { OPTION_AT = OPTION_OWN, OPTION_SREC, OPTION_IHEX, OPTION_TRANSFER, OPTION_LIST, OPTION_CHECK, OPTION_FORCE };
+enum {
+    OPTION_AT = OPTION_MORE,
+    OPTION_SREC,
+    OPTION_IHEX,
+    OPTION_LDA,
+    OPTION_TRANSFER,
+    OPTION_LIST,
+    OPTION_CHECK,
+    OPTION_FORCE
+};
 
 typedef struct command {
     pieces pieces;
@@ -85,7 +94,7 @@ static const char manual[] = "NAME\n"
                              "\n"
                              "SYNOPSIS\n"
                              "  mopimage -o IMAGE [--force] [--transfer ADDRESS]\n"
-                             "           {--at ADDRESS FILE | --srec FILE | --ihex FILE} ..\n"
+                             "           {--at ADDRESS FILE | --lda FILE | --srec FILE | --ihex FILE} ..\n"
                              "  mopimage --list IMAGE\n"
                              "  mopimage --check IMAGE\n"
                              "\n"
@@ -104,35 +113,44 @@ static const char manual[] = "NAME\n"
                              "        Replace IMAGE if it is a regular file.\n"
                              "  --at ADDRESS FILE\n"
                              "        The bytes of FILE as they are, from ADDRESS on.\n"
+                             "  --lda FILE\n"
+                             "        The absolute loader format of the PDP-11 (.LDA, .BIN). Every block is\n"
+                             "        read, or the file is refused with the byte, counted from 0: a wrong\n"
+                             "        checksum or count, a second byte of a block that is not 0, a block that\n"
+                             "        runs over address 0xFFFF, a file cut short, or without a block or an\n"
+                             "        end block. A later block is laid over an earlier one, as the loader\n"
+                             "        does. Bytes other than 0 are skipped between the blocks, and not read\n"
+                             "        behind the end block, and that is told.\n"
                              "  --srec FILE, --ihex FILE\n"
                              "        Motorola S-records; Intel HEX. Every record is read, or the file is\n"
                              "        refused with the line and the column: a wrong checksum, length, type or\n"
                              "        count of records (S5, S6), other text, a record behind the end record,\n"
                              "        or none. DOS line ends, small letters and a final control-Z are read.\n"
                              "  --transfer ADDRESS\n"
-                             "        Where the machine is started. It prevails over what an S-record or\n"
-                             "        HEX file says, of which the last counts; raw bytes say nothing, so\n"
-                             "        there it must be given.\n"
+                             "        Where the machine is started. It prevails over what an LDA, S-record\n"
+                             "        or HEX file says, of which the last counts. Raw bytes say nothing, nor\n"
+                             "        does an LDA file whose start address is odd: there it must be given.\n"
                              "  --list IMAGE\n"
                              "        All regions and the transfer address.\n"
                              "  --check IMAGE\n"
-                             "        Whether the library takes the image, and if not why, in words.\n"
-                             "  --help\n"
-                             "        This text.\n"
-                             "\n"
-                             "  Numbers are decimal, or hexadecimal (0x200), or octal (0o1000).\n"
-                             "\n";
+                             "        Whether the library takes the image, and if not why, in words.\n";
 
-static void help(void)
+static void help(FILE *out)
 {
-    printf(manual, MOP_REGIONS_MOST, LISTED);
-    words_statuses(stdout, STATUS_FINISHED, STATUS_OTHER);
-    words_statuses(stdout, STATUS_USAGE, STATUS_USAGE);
-    words_statuses(stdout, STATUS_IMAGE, STATUS_FILE);
+    fprintf(out, manual, MOP_REGIONS_MOST, LISTED);
+    manual_help(out);
     fputs("\n"
-          "EXAMPLE\n"
+          "  Numbers are decimal, or hexadecimal (0x200), or octal (0o1000).\n"
+          "\n",
+        out);
+    words_statuses(out, STATUS_FINISHED, STATUS_OTHER);
+    words_statuses(out, STATUS_USAGE, STATUS_USAGE);
+    words_statuses(out, STATUS_IMAGE, STATUS_FILE);
+    fputs("\n"
+          "EXAMPLES\n"
+          "  mopimage -o program.img --lda program.lda\n"
           "  mopimage -o program.img --at 0o40000 program.bin --transfer 0o40000\n",
-        stdout);
+        out);
 }
 
 /* Takes note of a file that is read. */
@@ -171,6 +189,8 @@ static int option(int c, char **words, command *m)
         return srec_read(&m->pieces, input(m, optarg));
     case OPTION_IHEX:
         return ihex_read(&m->pieces, input(m, optarg));
+    case OPTION_LDA:
+        return lda_read(&m->pieces, input(m, optarg));
     case OPTION_TRANSFER:
         m->has_transfer = true;
         return option_small("--transfer", optarg, 0, UINT32_MAX, &m->transfer);
@@ -182,11 +202,8 @@ static int option(int c, char **words, command *m)
     case OPTION_FORCE:
         m->output.force = true;
         return 0;
-    case 'h':
-        help();
-        exit(STATUS_FINISHED);
     default:
-        return complain(STATUS_USAGE, "see --help");
+        return manual_option(c, &(manual_of){help, words});
     }
 }
 
@@ -194,9 +211,10 @@ static int options(int count, char **words, command *m)
 {
     static const struct option known[] = {{"output", required_argument, NULL, 'o'},
         {"at", required_argument, NULL, OPTION_AT}, {"srec", required_argument, NULL, OPTION_SREC},
-        {"ihex", required_argument, NULL, OPTION_IHEX}, {"transfer", required_argument, NULL, OPTION_TRANSFER},
-        {"list", required_argument, NULL, OPTION_LIST}, {"check", required_argument, NULL, OPTION_CHECK},
-        {"force", no_argument, NULL, OPTION_FORCE}, {"help", no_argument, NULL, 'h'}, {NULL, 0, NULL, 0}};
+        {"ihex", required_argument, NULL, OPTION_IHEX}, {"lda", required_argument, NULL, OPTION_LDA},
+        {"transfer", required_argument, NULL, OPTION_TRANSFER}, {"list", required_argument, NULL, OPTION_LIST},
+        {"check", required_argument, NULL, OPTION_CHECK}, {"force", no_argument, NULL, OPTION_FORCE}, MANUAL_OPTIONS,
+        {NULL, 0, NULL, 0}};
     for (int c = 0; (c = getopt_long(count, words, "+o:h", known, NULL)) != -1;) {
         int status = option(c, words, m);
         if (status != 0)
@@ -218,8 +236,8 @@ int main(int count, char **words)
     int status = c.inputs == NULL ? complain(STATUS_OTHER, "no memory") : options(count, words, &c);
     if (status == 0)
         status = c.show != NULL ? show(&c) : make(&c);
-    if (status == 0 && fflush(stdout) != 0)
-        status = complain(STATUS_FILE, "standard output cannot be written: %s", strerror(errno));
+    if (status == 0)
+        status = words_written();
     pieces_free(&c.pieces);
     free(c.inputs);
     return status;

@@ -4,42 +4,14 @@
 #include <stdlib.h>
 #include <string.h>
 
-#include "files.h"
-#include "host.h"
-#include "listing.h"
-#include "parameters.h"
-#include "progress.h"
+#include "loading.h"
 #include "words.h"
 
 #define SEGMENT_REST (MOP_FRAME_MOST - MOP_SEGMENT_MOST) /* what code 0 has beside the data */
 
-enum { OPTION_ACCEPT = OPTION_JOB, OPTION_VERSION, OPTION_RESTART, OPTION_PARAMETERS };
-
-typedef struct loading {
-    mop_load_settings settings;
-    mop_load session;
-    mop_image image;
-    contents file;
-    parameters parameters; /* what it ends with, if settings says that it does */
-    const char *path;
-    uint32_t accept;                   /* the type served like 2; 2 for none other */
-    uint8_t asked;                     /* the type of the last request to this host */
-    bool unserved[MOP_PROGRAM_SYSTEM]; /* the types that were said not to be served */
-    bool begun;
-    uint64_t resets;   /* requests after the machine's first answer, since the load began again */
-    bool early;        /* one of them came before the last frame was under way */
-    uint32_t restarts; /* those that were told */
-    const host *host;
-    progress progress;
-} loading;
+enum { OPTION_ACCEPT = OPTION_JOB, OPTION_PROTOCOL, OPTION_RESTART, OPTION_RECORD, OPTION_PARAMETERS };
 
 /* ---- The load as the host runs it ------------------------------------ */
-
-/* One for each segment, and one for the parameters. */
-static uint64_t frames_of(const loading *l)
-{
-    return l->image.segments + l->settings.with_parameters;
-}
 
 /* The same request for an operating system. */
 static void rewrite(line_frame *frame, const mop_fields *request)
@@ -67,7 +39,7 @@ static void tell_unserved(loading *l, const line_frame *frame, uint8_t type)
 static void tell_reset(loading *l, const line_frame *frame)
 {
     char from[ADDRESS_TEXT];
-    bool early = l->session.position + 1 < frames_of(l);
+    bool early = l->session.position + 1 < loading_frames(l);
     bool said = early ? l->early : l->resets > 0;
     l->resets += 1;
     l->early |= early;
@@ -83,6 +55,13 @@ static void tell_reset(loading *l, const line_frame *frame)
     fflush(stdout);
 }
 
+static void note_request(request *r, const line_frame *frame, const mop_fields *fields)
+{
+    r->fields = *fields;
+    if (fields->id_length > 0)
+        memcpy(r->id, frame->bytes + fields->id_at, fields->id_length);
+}
+
 /* A request of the accepted type becomes one of type 2; show says so when it is
  * served, also where it begins the load again. */
 static void before(void *job, line_frame *frame)
@@ -96,28 +75,37 @@ static void before(void *job, line_frame *frame)
         tell_reset(l, frame);
     if (again && !l->settings.restart)
         return;
-    if (request.program != MOP_PROGRAM_SYSTEM && request.program != l->accept)
+    if (request.program != MOP_PROGRAM_SYSTEM && request.program != l->accept) {
         tell_unserved(l, frame, request.program);
-    else if (request.program != MOP_PROGRAM_SYSTEM)
-        rewrite(frame, &request);
+        return;
+    }
     if (l->session.waiting || again)
-        l->asked = request.program;
+        note_request(&l->asked, frame, &request);
+    if (request.program != MOP_PROGRAM_SYSTEM)
+        rewrite(frame, &request);
 }
 
 /* The first step is the one that begins the load: from then on the parameters
- * stay the same. */
+ * stay the same. From a restart on nothing is known of the machine's memory but
+ * what is sent anew. The record tells of a frame before it is sent. */
 static mop_written step(
     void *job, bool timer, const uint8_t *frame, size_t frame_length, uint8_t *reply, size_t reply_length)
 {
     loading *l = job;
     const parameters *p = &l->parameters;
+    const uint32_t restarts = l->session.restarts;
     if (l->session.waiting)
         parameters_now(&l->parameters);
-    if (timer)
-        return mop_load_update_timer(
-            l->settings, &l->session, l->file.bytes, l->file.length, p->bytes, p->length, reply, reply_length);
-    return mop_load_update_frame(l->settings, &l->session, l->file.bytes, l->file.length, p->bytes, p->length, frame,
-        frame_length, reply, reply_length);
+    mop_written written = timer ? mop_load_update_timer(l->settings, &l->session, l->file.bytes, l->file.length,
+                                      p->bytes, p->length, reply, reply_length)
+                                : mop_load_update_frame(l->settings, &l->session, l->file.bytes, l->file.length,
+                                      p->bytes, p->length, frame, frame_length, reply, reply_length);
+    if (l->session.restarts != restarts) {
+        l->resets = 0;
+        l->early = false;
+    }
+    loading_record_step(l);
+    return written;
 }
 
 static bool begins(const void *job, const line_frame *frame)
@@ -138,32 +126,34 @@ static host_stage stage(const void *job)
 
 static void tell_type(const loading *l)
 {
-    if (l->asked == MOP_PROGRAM_SYSTEM)
+    const uint8_t type = l->asked.fields.program;
+    if (type == MOP_PROGRAM_SYSTEM)
         return;
     char from[ADDRESS_TEXT];
     printf("%s asks for a %s (type %d): its request goes to the library as type %d (--accept-type %d).\n",
-        address_text(l->host->machine, from), program_words(l->asked), l->asked, MOP_PROGRAM_SYSTEM, l->asked);
+        address_text(l->host->machine, from), program_words(type), type, MOP_PROGRAM_SYSTEM, type);
 }
 
 static void tell_begun(const loading *l)
 {
     tell_type(l);
-    printf("Loading %s: %" PRIu64 " segments of up to %" PRIu32 " bytes.\n", l->path, l->image.segments,
+    fputs("Loading ", stdout);
+    loading_machine(l, stdout);
+    printf(": %s, %" PRIu64 " segments of up to %" PRIu32 " bytes.\n", l->path, l->image.segments,
         l->settings.segment_size);
-    if (!l->parameters.given)
-        return;
-    fputs(l->settings.version == MOP_VERSION_2_1 ? "Ends with parameters of version 2.1: " : "Ends with parameters: ",
-        stdout);
-    parameters_words(stdout, l->parameters.values, l->parameters.named);
-    puts(".");
+    if (l->parameters.given) {
+        fputs(
+            l->settings.version == MOP_VERSION_2_1 ? "Ends with parameters of version 2.1: " : "Ends with parameters: ",
+            stdout);
+        parameters_words(stdout, l->parameters.values, l->parameters.named);
+        puts(".");
+    }
+    fflush(stdout);
 }
 
-/* From here on nothing is known of the machine's memory but what is sent anew. */
 static void tell_restart(loading *l)
 {
     l->restarts = l->session.restarts;
-    l->resets = 0;
-    l->early = false;
     words_bar_end();
     tell_type(l);
     printf("The load begins again with its first segment (restart %" PRIu32 ").\n", l->restarts);
@@ -179,7 +169,8 @@ static void show(void *job)
     }
     if (l->restarts != l->session.restarts)
         tell_restart(l);
-    progress_show(&l->progress, l->session.position);
+    if (l->begun)
+        progress_show(&l->progress, l->session.position, loading_repeats(l));
 }
 
 static const host_job calls = {before, step, begins, stage, show};
@@ -191,9 +182,10 @@ static const char manual[] = "NAME\n"
                              "\n"
                              "SYNOPSIS\n"
                              "  mopload -i INTERFACE [--machine ADDRESS] [-S N] [-R N] [--timer MS]\n"
-                             "          [--restart] [--accept-type N] [--version 2.1|3.0] [--target-name TEXT]\n"
-                             "          [--target-address ADDRESS] [--host-name TEXT] [--host-address ADDRESS]\n"
-                             "          [--time TIME] [--parameters] [--wait S] [--trace FILE] IMAGE\n"
+                             "          [--restart] [--accept-type N] [--protocol 2.1|3.0]\n"
+                             "          [--target-name TEXT] [--target-address ADDRESS]\n"
+                             "          [--host-name TEXT] [--host-address ADDRESS] [--time TIME]\n"
+                             "          [--parameters] [--record FILE] [--wait S] [--trace FILE] IMAGE\n"
                              "\n"
                              "DESCRIPTION\n"
                              "  Waits for a machine to ask for a program, loads the image file IMAGE into\n"
@@ -205,8 +197,8 @@ static const char manual[] = "NAME\n"
                              "  touches addresses that it keeps for itself, such as a boot ROM; then they\n"
                              "  tell the segment's addresses, and its region as mopimage --list counts them.\n"
                              "\n"
-                             "  One host loads a machine at a time. A second mopload or mopdump on the\n"
-                             "  interface is refused. If any other program on this computer sends MOP\n"
+                             "  One host loads a machine at a time. A second mopload, mopdump or moploop\n"
+                             "  on the interface is refused. If any other program on this computer sends MOP\n"
                              "  frames from the same address the load is broken off.\n"
                              "\n"
                              "OPTIONS\n"
@@ -230,35 +222,49 @@ static const char manual[] = "NAME\n"
                              "        beginning. A program that asks for another before the host has heard\n"
                              "        that it was started begins the load again too: leave --restart out for\n"
                              "        a loader that does so on a machine that never answers the last frame.\n"
+                             "  --record FILE\n"
+                             "        Keep a record of the load in FILE, for the next shift and for the\n"
+                             "        files: how it stands or ended and what is known of the machine's\n"
+                             "        memory, the machine, the settings, the counts, and the image with its\n"
+                             "        SHA-256. It is there before the machine is asked, and is replaced as a\n"
+                             "        whole when the load begins, at each tenth, at its last frame, where it\n"
+                             "        begins again, and at the end; of a program that was killed it tells\n"
+                             "        what was known then.\n"
+                             "        A record replaces no file. If it cannot be written the load goes on. A\n"
+                             "        slow disk holds the load up.\n"
+                             "        sha256sum -c FILE, in its directory, checks the image; it warns of the\n"
+                             "        record's other lines. mopreport reads the records of a directory.\n"
                              "  --accept-type N\n"
                              "        Serve a machine that asks for a secondary (0) or tertiary (1) loader\n"
                              "        too. Many boot ROMs ask for type 1. The library serves type 2, an\n"
                              "        operating system: the request's type is changed before the library\n"
                              "        sees it, and the program says so.\n"
-                             "  --version 2.1|3.0\n"
-                             "        The version of the protocol that the machine follows; this program has\n"
-                             "        none of its own. Default 3.0. It matters to the parameters alone:\n"
+                             "  --protocol 2.1|3.0\n"
+                             "        The version of the protocol that the machine follows; --version 2.1\n"
+                             "        means the same. Default 3.0. It matters to the parameters alone:\n"
                              "        under 2.1 names and addresses are shorter, there is no time, and the\n"
                              "        machine stores its address and the names in its memory too, in the\n"
                              "        parameter block: 14 bytes from 64 below the first even address beyond\n"
                              "        memory on, over what the image laid there. A machine of 2.1 that is\n"
                              "        sent what only 3.0 has does not answer it: the load is unconfirmed.\n";
 
-static void help(void)
+static void help(FILE *out)
 {
-    fputs(manual, stdout);
-    fputs(parameters_manual, stdout);
-    common_help(stdout, "a machine's request");
-    counts_help(stdout);
-    words_statuses(stdout, STATUS_FINISHED, STATUS_SHARED);
-    words_statuses(stdout, STATUS_RESET, STATUS_IN_USE);
+    fputs(manual, out);
+    fputs(parameters_manual, out);
+    common_help(out, "a machine's request");
+    counts_help(out);
+    words_statuses(out, STATUS_FINISHED, STATUS_SHARED);
+    words_statuses(out, STATUS_RESET, STATUS_IN_USE);
     fputs("\n"
           "EXAMPLES\n"
-          "  mopload -i eth0 --accept-type 1 -R 1 program.img\n"
-          "  mopload -i eth0 --restart -S 1488 program.img\n"
-          "  mopload -i eth0 --target-name MILL --target-address 1.5 --time now program.img\n"
-          "  mopload -i eth0 --version 2.1 --target-name MILL --target-address 1.5 program.img\n",
-        stdout);
+          "  mopload -i eth0 --machine 08-00-2B-AA-BB-CC program.img\n"
+          "  mopload -i eth0 --machine 08-00-2B-AA-BB-CC --accept-type 1 -R 1 program.img\n"
+          "  mopload -i eth0 --machine 08-00-2B-AA-BB-CC --restart -S 1488 \\\n"
+          "          --record mill.record program.img\n"
+          "  mopload -i eth0 --machine 08-00-2B-AA-BB-CC --protocol 2.1 \\\n"
+          "          --target-name MILL --target-address 1.5 program.img\n",
+        out);
 }
 
 static int option(int c, const char *value, host *h, loading *l)
@@ -266,12 +272,20 @@ static int option(int c, const char *value, host *h, loading *l)
     switch (c) {
     case 'S':
         return option_small("-S", value, 1, MOP_ETHERNET_SEGMENT_MOST, &l->settings.segment_size);
+    case OPTION_PROTOCOL:
+        return option_protocol(value, &l->settings.version);
     case OPTION_VERSION:
-        return option_version(value, &l->settings.version);
+        return manual_version(&h->settings.program, &l->settings.version);
     case OPTION_RESTART:
         h->restart = true;
         l->settings.restart = 1;
         return 0;
+    case OPTION_RECORD:
+        if (value[0] == '\0')
+            return complain(STATUS_USAGE, "--record: the name of the file is empty");
+        free(l->record.name);
+        l->record.name = strdup(value);
+        return l->record.name == NULL ? complain(STATUS_OTHER, "no memory") : 0;
     case OPTION_ACCEPT:
         return option_small("--accept-type", value, MOP_PROGRAM_SECONDARY, MOP_PROGRAM_SYSTEM, &l->accept);
     default:
@@ -285,8 +299,8 @@ static int options(int count, char **words, host *h, loading *l)
 {
     static const struct option known[] = {HOST_OPTIONS, {"segment", required_argument, NULL, 'S'},
         {"restart", no_argument, NULL, OPTION_RESTART}, {"accept-type", required_argument, NULL, OPTION_ACCEPT},
-        {"version", required_argument, NULL, OPTION_VERSION}, PARAMETERS_OPTIONS(OPTION_PARAMETERS),
-        {NULL, 0, NULL, 0}};
+        {"protocol", required_argument, NULL, OPTION_PROTOCOL}, {"record", required_argument, NULL, OPTION_RECORD},
+        PARAMETERS_OPTIONS(OPTION_PARAMETERS), {NULL, 0, NULL, 0}};
     for (int c = 0; (c = getopt_long(count, words, "i:S:R:h", known, NULL)) != -1;) {
         int status = option(c, optarg, h, l);
         if (status != 0)
@@ -314,14 +328,14 @@ static uint32_t restarting_size(const loading *l)
 /* What the library would refuse at every step. */
 static int check_restart(const loading *l)
 {
-    if (!l->settings.restart || frames_of(l) <= MOP_RESTARTING_MOST)
+    if (!l->settings.restart || loading_frames(l) <= MOP_RESTARTING_MOST)
         return 0;
     const uint32_t size = restarting_size(l);
     char way[40] = "";
     if (size > 0)
         snprintf(way, sizeof way, "give -S %" PRIu32 " or more, or ", size);
     return complain(STATUS_USAGE, "--restart is refused (%d): %s, and %s makes %" PRIu64 "; %sleave --restart out",
-        MOP_REFUSED_MANY, refusal_words(MOP_REFUSED_MANY), l->path, frames_of(l), way);
+        MOP_REFUSED_MANY, refusal_words(MOP_REFUSED_MANY), l->path, loading_frames(l), way);
 }
 
 static int read_image(loading *l)
@@ -333,7 +347,7 @@ static int read_image(loading *l)
     if (l->image.refusal != 0)
         return complain(STATUS_IMAGE, "%s is refused (%d): %s; mopimage --check tells more", l->path, l->image.refusal,
             refusal_words(l->image.refusal));
-    progress_start(&l->progress, l->parameters.given ? "frames" : "segments", frames_of(l));
+    progress_start(&l->progress, l->parameters.given ? "frames" : "segments", loading_frames(l));
     return check_restart(l);
 }
 
@@ -347,45 +361,15 @@ static int check_room(const host *h, const loading *l)
         h->line.name, h->line.longest, h->line.longest - SEGMENT_REST);
 }
 
-/* The bytes that were rejected, and why a machine does so; of the parameters load_words tells it. */
-static void tell_rejected(const loading *l)
-{
-    const uint64_t c = l->session.position;
-    mop_segment segment = mop_image_segment(l->file.bytes, l->file.length, l->settings.segment_size, c);
-    if (l->session.verdict != MOP_LOAD_REJECTED || segment.refusal != MOP_ACCEPTED)
-        return;
-    printf("Segment %" PRIu64 " is %zu byte%s from 0x%08" PRIX32 " to 0x%08zX, in region %u of the image. A machine "
-           "rejects what ends beyond its memory, or touches addresses that it keeps for itself, such as a boot ROM.\n",
-        c + 1, segment.length, segment.length == 1 ? "" : "s", segment.address, segment.address + segment.length - 1,
-        image_region(&l->file, l->image, segment.address));
-}
-
-/* The frames that a timer sent. All others followed a request that was served, or
- * an answer; the answer that finishes a load is followed by none. */
-static uint64_t repeats_of(const mop_load *session)
-{
-    const uint64_t finished = session->verdict == MOP_LOAD_FINISHED;
-    return session->sent - session->counts.starts - (session->counts.advances - finished);
-}
-
-/* What the machine's memory holds, how the line was, and the status of it. */
-static int conclude(const loading *l, int status)
+/* What the machine's memory holds, how the line was, and the status of it. A record that could not be written matters
+ * where all else is good. */
+static int conclude(loading *l, int status)
 {
     words_bar_end();
-    if (status == STATUS_SHARED)
-        load_shared_words(stdout);
-    else
-        load_words(stdout, &l->session, &l->settings, &l->image);
-    tell_rejected(l);
-    if (l->session.restarts > 0 && status != STATUS_SHARED)
-        load_restarts_words(stdout, l->session.restarts);
-    if (l->resets > 0)
-        load_reset_words(
-            stdout, l->resets, l->session.verdict == MOP_LOAD_UNCONFIRMED && !l->early, l->settings.restart);
-    counts_words(stdout, "load", l->session.sent, repeats_of(&l->session), &l->session.counts);
-    if (status != 0)
-        return status;
-    return l->resets > 0 && l->session.verdict == MOP_LOAD_FINISHED ? STATUS_RESET : verdict_status(l->session.verdict);
+    loading_end(l, status, stdout);
+    counts_words(stdout, "load", l->session.sent, loading_repeats(l), &l->session.counts);
+    const int recorded = loading_record_end(l, status), ended = loading_status(l, status);
+    return ended == STATUS_FINISHED ? recorded : ended;
 }
 
 static int run(host *h, loading *l)
@@ -397,6 +381,8 @@ static int run(host *h, loading *l)
     if (status == 0)
         status = check_room(h, l);
     if (status == 0)
+        status = loading_record_first(l);
+    if (status == 0)
         status = conclude(l, host_run(h));
     host_close(h);
     return status;
@@ -404,9 +390,10 @@ static int run(host *h, loading *l)
 
 int main(int count, char **words)
 {
-    static host h = {.settings = {.timer = 2000, .wait = 600, .help = help}, .calls = &calls};
+    static host h = {.settings = {.timer = 2000, .wait = 600, .program = {.write = help}}, .calls = &calls};
     static loading l = {
         .settings = {.segment_size = 512, .repeats = 4, .version = MOP_VERSION_3_0}, .accept = MOP_PROGRAM_SYSTEM};
+    h.settings.program.words = words;
     h.job = &l;
     l.host = &h;
     l.session = mop_load_start();
@@ -417,5 +404,7 @@ int main(int count, char **words)
     if (status == 0)
         status = run(&h, &l);
     free(l.file.bytes);
+    free(l.seen);
+    free(l.record.name);
     return status;
 }

@@ -16,8 +16,9 @@
 
 enum {
     OPTION_MEMORY = OPTION_OWN,
-    OPTION_VERSION,
+    OPTION_PROTOCOL,
     OPTION_OFFER,
+    OPTION_IDLE,
     OPTION_FILL,
     OPTION_ROM,
     OPTION_ROM_FILE,
@@ -39,6 +40,7 @@ typedef struct machine_end {
     const char *files[FILES]; /* NULL for none */
     output save;              /* no path for none */
     bool offer;
+    bool idle;                    /* it neither asks nor offers at first */
     bool given;                   /* it was started by parameters */
     uint8_t host[ADDRESS_LENGTH]; /* whom it asks, ASSISTANCE for all */
     unsigned asked;               /* how often without an answer */
@@ -69,15 +71,17 @@ static int carry(machine_end *m, mop_machine_step step, const uint8_t *reply)
     return line_send(&m->line, m->host, reply, step.answer.length);
 }
 
-/* The first frame of a load or of a dump. */
+/* The first frame of a load or of a dump; the record of a machine that wants neither is all 0. */
 static int start(machine_end *m)
 {
     uint8_t reply[MOP_FRAME_MOST];
+    memcpy(m->host, ASSISTANCE, ADDRESS_LENGTH);
+    m->due = clock_now() + m->common.timer;
+    if (m->idle)
+        return 0;
     mop_machine_step step =
         m->offer ? mop_machine_start_dump(m->settings, m->memory.bytes, m->memory.length, reply, sizeof reply)
                  : mop_machine_start_load(m->settings, m->memory.bytes, m->memory.length, reply, sizeof reply);
-    memcpy(m->host, ASSISTANCE, ADDRESS_LENGTH);
-    m->due = clock_now() + m->common.timer;
     return carry(m, step, reply);
 }
 
@@ -182,6 +186,8 @@ static int take(machine_end *m, const line_frame *frame)
     if (free_to_choose && asks(m) &&
         mop_read(m->settings.version, frame->bytes, frame->length).code == MOP_CODE_VOLUNTEER)
         return volunteer(m, frame);
+    if (m->idle && m->machine.state == MOP_MACHINE_IDLE)
+        memcpy(m->host, frame->from, ADDRESS_LENGTH); /* anyone is answered */
     if (memcmp(frame->from, m->host, ADDRESS_LENGTH) != 0)
         return 0;
     m->asked = 0;
@@ -247,10 +253,10 @@ static int run(machine_end *m)
 /* ---- The command line ------------------------------------------------ */
 
 static const char manual[] = "NAME\n"
-                             "  mopmachine - be a machine that asks for a program or offers a dump\n"
+                             "  mopmachine - be a machine that asks for a program, offers a dump or is idle\n"
                              "\n"
                              "SYNOPSIS\n"
-                             "  mopmachine -i INTERFACE --memory N [--version 2.1|3.0] [--offer]\n"
+                             "  mopmachine -i INTERFACE --memory N [--protocol 2.1|3.0] [--offer | --idle]\n"
                              "             [--fill FILE] [--rom START LENGTH [--rom-file FILE]]\n"
                              "             [--save FILE [--force]] [--reset-after N] [-D N] [--timer MS]\n"
                              "             [--wait S] [--trace FILE]\n"
@@ -269,15 +275,19 @@ static const char manual[] = "NAME\n"
                              "OPTIONS\n"
                              "  --memory N\n"
                              "        Bytes of memory, up to 16777216; under version 2.1 at least 64.\n"
-                             "  --version 2.1|3.0\n"
-                             "        The version of the protocol that the machine follows; this program has\n"
-                             "        none of its own. Default 3.0. Under 2.1 it stores its address and the\n"
+                             "  --protocol 2.1|3.0\n"
+                             "        The version of the protocol that the machine follows; --version 2.1\n"
+                             "        means the same. Default 3.0. Under 2.1 it stores its address and the\n"
                              "        names of a load's parameters in memory too, in the parameter block: 14\n"
                              "        bytes from 64 below the first even address beyond memory on. It does\n"
                              "        not answer parameters with what 2.1 does not have: a name above 6\n"
                              "        bytes, an address above 2, or a time.\n"
                              "  --offer\n"
                              "        Offer a dump and not ask for a program.\n"
+                             "  --idle\n"
+                             "        Neither ask nor offer: answer any host's loop tests (moploop), loads\n"
+                             "        and dumps, until it is started, or no host was heard in the time of\n"
+                             "        --wait.\n"
                              "  --fill FILE\n"
                              "        What the memory holds at first, from address 0 on; the rest is 0.\n"
                              "  --rom START LENGTH\n"
@@ -305,13 +315,19 @@ static const char manual[] = "NAME\n"
                              "  --device N, --processor N\n"
                              "        What it says it is, 0 to 255. Default 0.\n";
 
-static void help(void)
+static void help(FILE *out)
 {
-    fputs(manual, stdout);
-    common_help(stdout, "a host to be heard");
-    words_statuses(stdout, STATUS_FINISHED, STATUS_OTHER);
-    words_statuses(stdout, STATUS_SILENT, STATUS_PERMISSION);
-    words_statuses(stdout, STATUS_FILE, STATUS_FILE);
+    fputs(manual, out);
+    common_help(out, "a host to be heard");
+    words_statuses(out, STATUS_FINISHED, STATUS_OTHER);
+    words_statuses(out, STATUS_SILENT, STATUS_INTERRUPTED);
+    words_statuses(out, STATUS_USAGE, STATUS_PERMISSION);
+    words_statuses(out, STATUS_FILE, STATUS_FILE);
+    fputs("\n"
+          "EXAMPLES\n"
+          "  mopmachine -i vmachine --memory 32768 --save memory.bin --drop 9\n"
+          "  mopmachine -i vmachine --memory 32768 --fill memory.bin --offer\n",
+        out);
 }
 
 static int small_byte(const char *name, const char *value, uint8_t *byte)
@@ -335,20 +351,29 @@ static int rom_option(const char *start, const char *length, mop_window *rom)
     return status;
 }
 
+static int memory_option(const char *value, size_t *length)
+{
+    uint32_t bytes = 0;
+    int status = option_small("--memory", value, 1, MOP_MEMORY_MOST, &bytes);
+    *length = bytes;
+    return status;
+}
+
 static int option(int c, char **words, machine_end *m)
 {
     const char *value = optarg;
-    uint64_t bytes = 0;
-    int status = 0;
     switch (c) {
     case OPTION_MEMORY:
-        status = option_number("--memory", value, 1, MOP_MEMORY_MOST, &bytes);
-        m->memory.length = (size_t)bytes;
-        return status;
+        return memory_option(value, &m->memory.length);
+    case OPTION_PROTOCOL:
+        return option_protocol(value, &m->settings.version);
     case OPTION_VERSION:
-        return option_version(value, &m->settings.version);
+        return manual_version(&m->common.program, &m->settings.version);
     case OPTION_OFFER:
         m->offer = true;
+        return 0;
+    case OPTION_IDLE:
+        m->idle = true;
         return 0;
     case OPTION_FILL:
         m->files[FILL] = value;
@@ -380,12 +405,13 @@ static int option(int c, char **words, machine_end *m)
 static int options(int count, char **words, machine_end *m)
 {
     static const struct option known[] = {LINE_OPTIONS, {"memory", required_argument, NULL, OPTION_MEMORY},
-        {"version", required_argument, NULL, OPTION_VERSION}, {"offer", no_argument, NULL, OPTION_OFFER},
-        {"fill", required_argument, NULL, OPTION_FILL}, {"rom", required_argument, NULL, OPTION_ROM},
-        {"rom-file", required_argument, NULL, OPTION_ROM_FILE}, {"save", required_argument, NULL, OPTION_SAVE},
-        {"force", no_argument, NULL, OPTION_FORCE}, {"reset-after", required_argument, NULL, OPTION_RESET},
-        {"dump-most", required_argument, NULL, 'D'}, {"device", required_argument, NULL, OPTION_DEVICE},
-        {"processor", required_argument, NULL, OPTION_PROCESSOR}, {NULL, 0, NULL, 0}};
+        {"protocol", required_argument, NULL, OPTION_PROTOCOL}, {"offer", no_argument, NULL, OPTION_OFFER},
+        {"idle", no_argument, NULL, OPTION_IDLE}, {"fill", required_argument, NULL, OPTION_FILL},
+        {"rom", required_argument, NULL, OPTION_ROM}, {"rom-file", required_argument, NULL, OPTION_ROM_FILE},
+        {"save", required_argument, NULL, OPTION_SAVE}, {"force", no_argument, NULL, OPTION_FORCE},
+        {"reset-after", required_argument, NULL, OPTION_RESET}, {"dump-most", required_argument, NULL, 'D'},
+        {"device", required_argument, NULL, OPTION_DEVICE}, {"processor", required_argument, NULL, OPTION_PROCESSOR},
+        {NULL, 0, NULL, 0}};
     for (int c = 0; (c = getopt_long(count, words, "+i:D:h", known, NULL)) != -1;) {
         int status = option(c, words, m);
         if (status != 0)
@@ -402,6 +428,8 @@ static int options(int count, char **words, machine_end *m)
         return complain(STATUS_USAGE, "--rom-file: give --rom START LENGTH too");
     if (m->offer && m->reset_after != 0)
         return complain(STATUS_USAGE, "--reset-after is of a load: it does not go with --offer");
+    if (m->idle && (m->offer || m->reset_after != 0))
+        return complain(STATUS_USAGE, "--idle goes neither with --offer nor with --reset-after");
     return 0;
 }
 
@@ -473,14 +501,16 @@ static int on_the_line(machine_end *m)
         status = fill(m);
     if (status == 0)
         status = conclude(m, run(m));
+    line_tell(&m->line);
     line_close(&m->line);
     return status;
 }
 
 int main(int count, char **words)
 {
-    static machine_end m = {.common = {.timer = 2000, .wait = 600, .help = help},
+    static machine_end m = {.common = {.timer = 2000, .wait = 600, .program = {.write = help}},
         .settings = {.reply_bytes = 1024, .version = MOP_VERSION_3_0}};
+    m.common.program.words = words;
     words_program("mopmachine");
     int status = options(count, words, &m);
     if (status == 0)

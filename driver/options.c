@@ -61,11 +61,11 @@ int option_mode(const char *name, const char *text, mode_t *mode)
     return 0;
 }
 
-int option_version(const char *text, uint8_t *version)
+int option_protocol(const char *text, uint8_t *version)
 {
     bool old = strcmp(text, "2.1") == 0;
     if (!old && strcmp(text, "3.0") != 0)
-        return complain(STATUS_USAGE, "--version: '%s' is no version of the protocol (write 2.1 or 3.0)", text);
+        return complain(STATUS_USAGE, "--protocol: '%s' is no version of the protocol (write 2.1 or 3.0)", text);
     *version = old ? MOP_VERSION_2_1 : MOP_VERSION_3_0;
     return 0;
 }
@@ -108,34 +108,44 @@ int common_option(int option, const char *value, common_settings *settings)
     case OPTION_TRACE:
         settings->line.trace = value;
         return 0;
-    case 'h':
-        settings->help();
-        exit(STATUS_FINISHED);
     default:
-        return complain(STATUS_USAGE, "see --help");
+        return manual_option(option, &settings->program);
     }
 }
 
-void common_help(FILE *out, const char *waits_for)
+void sending_help(FILE *out, uint32_t timer, const char *waits_for)
 {
     fprintf(out,
         "  -i, --interface INTERFACE\n"
         "        The Ethernet interface, as ip link names it. It must be up, and\n"
         "        the program run as root or with the capability CAP_NET_RAW.\n"
         "  --timer MS\n"
-        "        Milliseconds of silence before a frame is sent again. Default 2000.\n"
-        "  --wait S\n"
-        "        Seconds to wait for %s. Default 600.\n"
-        "  --trace FILE\n"
-        "        Write every message on the line to FILE, one to a line in\n"
-        "        hexadecimal: what the program frames reads. It replaces no file.\n"
-        "  --drop N, --double N\n"
-        "        For rehearsals: lose, or hand over twice, every Nth frame sent and\n"
-        "        every Nth received.\n"
-        "  --help\n"
-        "        This text.\n"
-        "\n"
-        "  Numbers are decimal, or hexadecimal (0x200), or octal (0o1000).\n"
-        "\n",
-        waits_for);
+        "        Milliseconds of silence before a frame is sent again. Default %" PRIu32 ".\n",
+        timer);
+    if (waits_for != NULL)
+        fprintf(out,
+            "  --wait S\n"
+            "        Seconds to wait for %s. Default 600.\n",
+            waits_for);
+    fputs("  --trace FILE\n"
+          "        Write every message that is sent or received to FILE, one to a line in\n"
+          "        hexadecimal: what the program frames reads. It replaces no file. A\n"
+          "        FILE whose name ends in .pcap is a capture that Wireshark and tcpdump\n"
+          "        read: the whole frames with their times. A capture that is there\n"
+          "        already is appended to.\n"
+          "  --drop N, --double N\n"
+          "        For rehearsals: lose, or hand over twice, every Nth frame sent and\n"
+          "        every Nth received, as if on the line: a trace has what this end sent,\n"
+          "        and what it was handed.\n",
+        out);
+    manual_help(out);
+    fputs("\n"
+          "  Numbers are decimal, or hexadecimal (0x200), or octal (0o1000).\n"
+          "\n",
+        out);
+}
+
+void common_help(FILE *out, const char *waits_for)
+{
+    sending_help(out, 2000, waits_for);
 }

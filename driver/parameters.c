@@ -6,6 +6,7 @@
 #include <string.h>
 #include <time.h>
 
+#include "identity.h"
 #include "words.h"
 
 #define ADDRESS_BYTES 6 /* of an entry at most */
@@ -34,7 +35,7 @@ static int read_name(const char *option, const char *text, mop_value *value)
 {
     size_t length = strlen(text);
     if (length > MOP_VALUE_MOST)
-        return complain(STATUS_USAGE, "%s: '%s' has %zu bytes, and a name has at most %d (under --version 2.1 %d)",
+        return complain(STATUS_USAGE, "%s: '%s' has %zu bytes, and a name has at most %d (under --protocol 2.1 %d)",
             option, text, length, MOP_VALUE_MOST, MOP_NAME_MOST_2_1);
     value->length = (uint8_t)length;
     memcpy(value->bytes, text, length);
@@ -210,18 +211,9 @@ static int read_time(const char *option, const char *text, mop_value *value)
 
 /* ---- Printed --------------------------------------------------------- */
 
-/* What is not printable ASCII stands as \xNN. */
 static void name_words(FILE *out, const mop_value *value)
 {
-    fputc('"', out);
-    for (size_t i = 0; i < value->length; i++) {
-        int byte = value->bytes[i];
-        if (byte < ' ' || byte > '~')
-            fprintf(out, "\\x%02X", (unsigned)byte);
-        else
-            fprintf(out, byte == '"' || byte == '\\' ? "\\%c" : "%c", byte);
-    }
-    fputc('"', out);
+    quoted_words(out, value->bytes, value->length);
 }
 
 static void address_words(FILE *out, const mop_value *value)
@@ -235,8 +227,7 @@ static int signed_byte(uint8_t byte)
     return byte < 128 ? byte : byte - 256;
 }
 
-/* In the form that --time takes. */
-static void time_words(FILE *out, const mop_value *value)
+void time_words(FILE *out, const mop_value *value)
 {
     const uint8_t *b = value->bytes;
     int hours = signed_byte(b[8]), minutes = signed_byte(b[9]);
@@ -309,7 +300,7 @@ void parameters_now(parameters *p)
 static int check_2_1(int type, int length)
 {
     if (type == MOP_ENTRY_HOST_TIME)
-        return complain(STATUS_USAGE, "--time: version 2.1 has no host time (leave it out, or give --version 3.0)");
+        return complain(STATUS_USAGE, "--time: version 2.1 has no host time (leave it out, or give --protocol 3.0)");
     if (length > kinds[type].most_2_1)
         return complain(STATUS_USAGE, "%s has %d bytes, and under version 2.1 %s has at most %d", kinds[type].option,
             length, kinds[type].one, kinds[type].most_2_1);
@@ -403,7 +394,7 @@ const char parameters_manual[] = "  --target-name TEXT, --target-address ADDRESS
                                  "        between (08-00-2B-AA-BB-CC, 05-04); or it is a DECnet node, written\n"
                                  "        AREA.NODE in decimal, 1.1 to 63.1023, and sent as area x 1024 + node\n"
                                  "        in two bytes, the low one first (1.5 is 05-04).\n"
-                                 "        Under --version 2.1 a name has up to 6 bytes, an address 1 or 2, and\n"
+                                 "        Under --protocol 2.1 a name has up to 6 bytes, an address 1 or 2, and\n"
                                  "        there is no time.\n"
                                  "        now is this computer's local time at the moment when the load begins.\n"
                                  "        Any other time has every digit: '1985-03-31 14:05:00.00 -05:00'. The\n"

@@ -58,6 +58,9 @@ int parameters_try(const parameters *p, uint8_t version, uint32_t longest, const
  * or, without a list of these, of those that are not empty. */
 void parameters_words(FILE *out, mop_parameters values, const bool *named);
 
+/* A time that the library takes, 10 bytes, in the form that --time has. */
+void time_words(FILE *out, const mop_value *value);
+
 /* Where the parameter block of version 2.1 begins in a memory of so many bytes,
  * at least 64. */
 size_t parameters_block_at(size_t memory_length);

@@ -107,6 +107,14 @@ int part_again(part *p, const char *path, uint64_t length, uint64_t written, mod
     return status;
 }
 
+/* Cutting also gives up the room behind the end. */
+int part_cut(part *p, uint64_t length, uint64_t written)
+{
+    p->written = written;
+    int reason = ftruncate(p->fd, (off_t)written) == 0 ? reserve(p, length) : errno;
+    return reason == 0 ? 0 : complain(STATUS_FILE, "%s cannot be written: %s", p->name, strerror(reason));
+}
+
 /* ---- Growing --------------------------------------------------------- */
 
 void part_grow(part *p, const uint8_t *bytes, uint64_t length)
@@ -126,6 +134,12 @@ void part_grow(part *p, const uint8_t *bytes, uint64_t length)
         return;
     }
     p->failed = 0;
+}
+
+void part_sync(part *p)
+{
+    if (p->safe < p->written && fdatasync(p->fd) == 0)
+        p->safe = p->written;
 }
 
 /* ---- Ending ---------------------------------------------------------- */

@@ -13,6 +13,7 @@ typedef struct part {
     char *name; /* PATH.part */
     int fd;
     uint64_t written; /* bytes that are in it */
+    uint64_t safe;    /* those that are known to be on the disk */
     int failed;       /* why the last write or the renaming failed, or 0 */
 } part;
 
@@ -36,9 +37,15 @@ int part_open(part *p, const char *path, uint64_t length, mode_t mode);
 /* Opens the one that is there, which has written bytes, and tells its mode. */
 int part_again(part *p, const char *path, uint64_t length, uint64_t written, mode_t *mode);
 
+/* Cuts off what lies behind the first written bytes; there is room for length again. */
+int part_cut(part *p, uint64_t length, uint64_t written);
+
 /* Of length bytes writes those that are not in it yet. What cannot be written
  * is tried again the next time. */
 void part_grow(part *p, const uint8_t *bytes, uint64_t length);
+
+/* Has what is written on the disk. A failure is none yet: what is safe stays. */
+void part_sync(part *p);
 
 /* Syncs; and names it PATH. 0, or an exit status with the reason said. */
 int part_keep(part *p);

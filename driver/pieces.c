@@ -120,7 +120,13 @@ static uint8_t *put(uint8_t *at, uint64_t number, int bytes)
 
 int pieces_image(const pieces *p, contents *image)
 {
-    image->length = p->store.length + IMAGE_ENTRY * p->count + IMAGE_TRAILER;
+    const size_t behind = IMAGE_ENTRY * p->count + IMAGE_TRAILER;
+    image->length = p->store.length + behind;
+    if (image->length > MOP_FILE_MOST)
+        return complain(STATUS_IMAGE,
+            "%zu bytes of regions and %zu of directory and trailer are %zu, and an image file has at most %d: leave "
+            "bytes out, or fill gaps of under %d bytes",
+            p->store.length, behind, image->length, MOP_FILE_MOST, IMAGE_ENTRY);
     image->bytes = malloc(image->length);
     if (image->bytes == NULL)
         return complain(STATUS_OTHER, "no memory");

@@ -2,15 +2,20 @@
 
 #include <errno.h>
 #include <fcntl.h>
-#include <stdbool.h>
-#include <stdio.h>
+#include <libgen.h>
 #include <stdlib.h>
 #include <string.h>
 #include <sys/stat.h>
 #include <unistd.h>
 
+#include "identity.h"
+#include "manual.h"
+#include "options.h"
 #include "part.h"
+#include "recorded.h"
 #include "words.h"
+
+/* ---- The file -------------------------------------------------------- */
 
 /* The whole text into a file, on the disk. */
 static bool write_text(const char *name, const char *text, int how, mode_t mode)
@@ -28,46 +33,170 @@ static bool write_text(const char *name, const char *text, int how, mode_t mode)
     return good;
 }
 
-static int cannot(const char *name)
+static int cannot(record *r, const char *name)
 {
+    const bool said = r->failed;
+    r->failed = true;
+    if (said)
+        return STATUS_FILE;
     if (errno == EEXIST)
-        return complain(STATUS_FILE, "%s is there already, and a dump replaces no file: move it away", name);
+        return complain(STATUS_FILE, "%s is there already, and a record replaces no file: move it away", name);
     return complain(STATUS_FILE, "%s cannot be written: %s", name, strerror(errno));
 }
 
-/* The draft is whole before it becomes the record. Of a program that was killed
- * one may be left over; it belongs to the record that is there. */
-static int put(const char *path, const char *text, mode_t mode, bool first)
+/* Whether a file is a draft that a killed program may have left over: a record's beginning, or empty. */
+static bool is_draft(const char *name)
 {
-    char *record = name_with(path, ".record"), *draft = name_with(path, ".record.part");
-    int status = record != NULL && draft != NULL ? 0 : STATUS_OTHER;
-    if (status == 0 && !write_text(draft, text, first ? O_EXCL : O_TRUNC, mode)) {
-        status = cannot(draft);
-    } else if (status == 0 && (first ? rename_free(draft, record) : rename(draft, record)) != 0) {
-        status = cannot(record);
+    uint8_t first[sizeof "dump: "];
+    struct stat there;
+    int fd = open(name, O_RDONLY | O_CLOEXEC | O_NOFOLLOW | O_NONBLOCK);
+    if (fd < 0)
+        return false;
+    ssize_t length = fstat(fd, &there) == 0 && S_ISREG(there.st_mode) ? read(fd, first, sizeof first) : -1;
+    close(fd);
+    return length == 0 || (length > 0 && recorded_begins(first, (size_t)length));
+}
+
+/* The draft is whole before it becomes the record. */
+static int put(record *r, const char *text, int how, int (*name_it)(const char *, const char *))
+{
+    if (text == NULL)
+        return complain(STATUS_OTHER, "no memory");
+    char *draft = name_with(r->name, ".part");
+    if (draft == NULL)
+        return STATUS_OTHER;
+    int status = 0;
+    if (!write_text(draft, text, how, r->mode)) {
+        status = cannot(r, draft);
+    } else if (name_it(draft, r->name) != 0) {
+        status = cannot(r, r->name);
         unlink(draft);
+    } else {
+        r->failed = false;
+        directory_sync(r->name);
     }
-    free(record);
     free(draft);
     return status;
 }
 
-int record_put(const char *path, const char *text, mode_t mode)
+int record_first(record *r, const char *text)
 {
-    return put(path, text, mode, false);
+    return put(r, text, O_EXCL, rename_free);
 }
 
-int record_first(const char *path, const char *text, mode_t mode)
+int record_again(record *r, const char *text)
 {
-    return put(path, text, mode, true);
+    char *draft = name_with(r->name, ".part");
+    if (draft == NULL)
+        return STATUS_OTHER;
+    if (is_draft(draft))
+        unlink(draft);
+    free(draft);
+    return put(r, text, O_EXCL, rename);
 }
 
-void record_remove(const char *path)
+int record_put(record *r, const char *text)
 {
-    char *record = name_with(path, ".record");
-    if (record != NULL)
-        unlink(record);
-    free(record);
+    return put(r, text, O_EXCL, rename);
+}
+
+void record_remove(const record *r)
+{
+    unlink(r->name);
+}
+
+/* ---- Its text -------------------------------------------------------- */
+
+char *record_text(record_writer write, const void *what)
+{
+    char *text = NULL;
+    size_t size = 0;
+    FILE *out = open_memstream(&text, &size);
+    if (out == NULL)
+        return NULL;
+    write(what, out);
+    if (fclose(out) == 0)
+        return text;
+    free(text);
+    return NULL;
+}
+
+void record_lines(FILE *out, const char *heading, const char *text)
+{
+    for (const char *line = text; *line != '\0';) {
+        size_t length = strcspn(line, "\n");
+        fprintf(out, "%s%.*s\n", heading, (int)length, line);
+        line += length + (line[length] == '\n');
+    }
+}
+
+void record_known(FILE *out, record_writer write, const void *what)
+{
+    char *text = record_text(write, what);
+    if (text != NULL)
+        record_lines(out, "known: ", text);
+    free(text);
+}
+
+static void write_date(FILE *out, const char *heading, time_t when)
+{
+    char date[32];
+    struct tm utc;
+    if (gmtime_r(&when, &utc) == NULL || strftime(date, sizeof date, "%Y-%m-%dT%H:%M:%SZ", &utc) == 0)
+        date[0] = '\0';
+    fprintf(out, "%s%s\n", heading, date);
+}
+
+void record_head(FILE *out, time_t begun, const line *l)
+{
+    char own[ADDRESS_TEXT];
+    write_date(out, "written: ", time(NULL));
+    if (begun != 0)
+        write_date(out, "begun: ", begun);
+    fprintf(out, "version: %s of Kochipurn, commit %s\n", words_name(), program_version);
+    fprintf(out, "host: %s, interface %s\n", address_text(l->address, own), l->name);
+}
+
+/* ---- Names ----------------------------------------------------------- */
+
+const char *record_base(const char *path)
+{
+    const char *last = strrchr(path, '/');
+    return last == NULL ? path : last + 1;
+}
+
+char *record_seen(const char *record, const char *path)
+{
+    char *copy = strdup(record), *directory = copy == NULL ? NULL : realpath(dirname(copy), NULL);
+    char *real = realpath(path, NULL), *name = NULL;
+    if (real == NULL) {
+        name = strdup(path);
+    } else {
+        const size_t size = real == record_base(real) - 1 ? 1 : (size_t)(record_base(real) - 1 - real);
+        const bool beside = directory != NULL && strlen(directory) == size && memcmp(directory, real, size) == 0;
+        name = strdup(beside ? record_base(real) : real);
+    }
+    free(copy);
+    free(directory);
+    free(real);
+    return name;
+}
+
+void record_name(FILE *out, const char *name)
+{
+    quoted_words(out, (const uint8_t *)name, strlen(name));
+}
+
+/* As sha256sum writes it: behind a backslash where the name has one, or the end of a line. To it - alone is no file. */
+void record_sum(FILE *out, const char *sum, const char *name)
+{
+    fprintf(out, "%s%s  %s", strpbrk(name, "\\\n") == NULL ? "" : "\\", sum, strcmp(name, "-") == 0 ? "./" : "");
+    for (; *name != '\0'; name++)
+        if (*name == '\\' || *name == '\n')
+            fputs(*name == '\n' ? "\\n" : "\\\\", out);
+        else
+            fputc(*name, out);
+    fputc('\n', out);
 }
 
 const char *record_find(const char *text, const char *heading, size_t *length)

@@ -3,9 +3,8 @@
 #include <inttypes.h>
 #include <stdlib.h>
 #include <string.h>
-#include <time.h>
 
-#include "record.h"
+#include "identity.h"
 #include "sha256.h"
 #include "words.h"
 
@@ -17,7 +16,7 @@ uint64_t dumping_came(const dumping *d, const copy *c)
 /* The frames sent without those that went out for the first time: a request for
  * each reply, and the request on its way or the end of the dump, which one that
  * is given up has beside. */
-static uint64_t repeats_of(const mop_dump *session)
+uint64_t dumping_repeats(const mop_dump *session)
 {
     const uint64_t end = session->verdict == MOP_DUMP_GIVEN_UP;
     return session->waiting ? 0 : session->sent - session->replies - 1 - end;
@@ -25,7 +24,7 @@ static uint64_t repeats_of(const mop_dump *session)
 
 void dumping_counts(const copy *c, FILE *out)
 {
-    counts_words(out, "dump", c->session.sent, repeats_of(&c->session), &c->session.counts);
+    counts_words(out, "dump", c->session.sent, dumping_repeats(&c->session), &c->session.counts);
 }
 
 void report_range(const dumping *d, FILE *out)
@@ -35,27 +34,31 @@ void report_range(const dumping *d, FILE *out)
 
 /* ---- Its parts ------------------------------------------------------- */
 
-static void write_head(const dumping *d, const char *how, FILE *out)
+static void write_machine(const dumping *d, FILE *out)
 {
-    char machine[ADDRESS_TEXT], own[ADDRESS_TEXT], date[32];
-    time_t now = time(NULL);
-    struct tm utc;
-    if (gmtime_r(&now, &utc) == NULL || strftime(date, sizeof date, "%Y-%m-%dT%H:%M:%SZ", &utc) == 0)
-        date[0] = '\0';
-    fprintf(out, "dump: %s\ndate: %s\n", how, date);
-    fprintf(out, "host: %s, interface %s\n", address_text(d->host->line.address, own), d->host->line.name);
-    if (d->begun != NULL)
-        fprintf(out, "machine: %s, device %d, memory size %" PRIu32 "\n", address_text(d->host->machine, machine),
-            d->offer.device, d->offer.memory_size);
-    else if (d->host->named)
-        fprintf(out, "machine: %s\n", address_text(d->host->machine, machine));
+    char machine[ADDRESS_TEXT];
+    if (d->begun == NULL && !d->host->named)
+        return;
+    fprintf(out, "machine: %s", address_text(d->host->machine, machine));
+    if (d->begun != NULL) {
+        fputs(", device ", out);
+        device_words(out, d->offer.device);
+        fprintf(out, ", memory size %" PRIu32, d->offer.memory_size);
+    }
+    fputs("\n", out);
+}
+
+static void write_head(const dumping *d, FILE *out)
+{
+    record_head(out, d->since, &d->host->line);
+    write_machine(d, out);
     report_range(d, out);
     fprintf(out, "\nsettings: C %" PRIu32 ", R %" PRIu32 ", timer %" PRIu32 " ms\n", d->settings.request_bytes,
         d->settings.repeats, d->host->settings.timer);
     if (d->resume)
         fprintf(out,
-            "resumed: at byte %" PRIu64 "; the bytes before are of the earlier run below, and the memory may have "
-            "changed in between\n",
+            "resumed: at byte %" PRIu64 "; the bytes before are of an earlier run, and the memory may have changed "
+            "in between\n",
             d->before);
 }
 
@@ -68,7 +71,7 @@ static void write_session(const copy *c, const char *which, FILE *out)
         c->session.sent, c->session.repeats);
     fprintf(out, "%scounts: starts %" PRIu64 ", advances %" PRIu64 ", ignored %" PRIu64 ", rejections %" PRIu64 "\n",
         which, counts->starts, counts->advances, counts->ignored, counts->rejections);
-    fprintf(out, "%srepeated: %" PRIu64 " of the frames sent\n", which, repeats_of(&c->session));
+    fprintf(out, "%srepeated: %" PRIu64 " of the frames sent\n", which, dumping_repeats(&c->session));
     fprintf(out, "%soffers: %" PRIu64 " after the first answer\n", which, c->offers);
 }
 
@@ -76,102 +79,148 @@ static void write_file(const dumping *d, const copy *c, const char *which, const
 {
     char sum[SHA256_TEXT];
     sha256_text(c->bytes, (size_t)c->part.written, sum);
-    fprintf(out, "%sfile: %s, %" PRIu64 " bytes\n%ssha256: %s\n", which, file, c->part.written, which, sum);
+    fprintf(out, "%sfile: ", which);
+    record_name(out, record_base(file));
+    fprintf(out, ", %" PRIu64 " bytes\n", c->part.written);
+    record_sum(out, sum, record_base(file));
     if (c->part.written < dumping_came(d, c))
         fprintf(out, "%sunwritten: %" PRIu64 " bytes that came: %s\n", which, dumping_came(d, c) - c->part.written,
             strerror(c->part.failed));
 }
 
+static void write_part(const copy *c, const char *which, FILE *out)
+{
+    fprintf(out, "%sfile: ", which);
+    record_name(out, record_base(c->part.name));
+    fprintf(out, ", %" PRIu64 " bytes or more\n", c->part.safe);
+}
+
+uint64_t dumping_offers(const dumping *d)
+{
+    return d->copies[0].offers + d->copies[1].offers;
+}
+
 /* Two that were compared need no word on offers. */
 void dumping_doubts(const dumping *d, int status, FILE *out)
 {
-    uint64_t offers = d->copies[0].offers + d->copies[1].offers;
     if (status == STATUS_SHARED)
         dump_shared_words(out);
-    if (offers > 0 && d->compared[0] == '\0')
-        dump_offers_words(out, offers);
-}
-
-/* The record of the run before, each line behind a mark. */
-static void write_earlier(const char *text, FILE *out)
-{
-    fputs("The record of the earlier run:\n", out);
-    for (const char *line = text; *line != '\0';) {
-        size_t length = strcspn(line, "\n");
-        fprintf(out, "> %.*s\n", (int)length, line);
-        line += length + (line[length] == '\n');
-    }
+    if (dumping_offers(d) > 0 && d->compared[0] == '\0')
+        dump_offers_words(out, dumping_offers(d));
 }
 
 /* ---- The record ------------------------------------------------------ */
 
-typedef void (*body)(const dumping *d, int status, const char *file, FILE *out);
+/* A dump, and how it ended; how is NULL for one that is not over. */
+typedef struct told {
+    const dumping *d;
+    int status;
+    const char *how;
+    const char *file;
+} told;
 
-static void body_under_way(const dumping *d, int status, const char *file, FILE *out)
+/* Of one that is not over. */
+static void write_state(const dumping *d, FILE *out)
 {
-    (void)status;
-    fprintf(out, "file: %s has the first bytes of the range, as many as it is long", d->copies[0].part.name);
-    fprintf(out, "; where there is none and %s is there, %s is whole\n", file, file);
+    const part *first = &d->copies[0].part;
+    if (d->begun == NULL)
+        fputs("waiting: no machine has offered a dump", out);
+    else
+        fputs("running", out);
+    fprintf(out, "%s the first %" PRIu64 " or more of %" PRIu64 " bytes are in ", d->begun == NULL ? ";" : ":",
+        first->safe, d->range.length);
+    record_name(out, record_base(first->name));
+    if (d->begun != &d->copies[1])
+        return;
+    fprintf(out, ", and of the second dump the first %" PRIu64 " or more in ", d->copies[1].part.safe);
+    record_name(out, record_base(d->copies[1].part.name));
 }
 
-static void body_end(const dumping *d, int status, const char *file, FILE *out)
+/* Also of a file that got its name when the record could not be written any more. */
+static void write_later(const dumping *d, FILE *out)
 {
+    const part *first = &d->copies[0].part;
+    fprintf(
+        out, "This was so when it was written; more may have come since. The first %" PRIu64 " bytes of ", first->safe);
+    record_name(out, record_base(first->name));
+    fputs(" are on the disk; those behind them, if any, are of the range too unless the computer failed, and --resume "
+          "asks for them again. Where there is no ",
+        out);
+    record_name(out, record_base(first->name));
+    fputs(" and ", out);
+    record_name(out, record_base(d->path));
+    fputs(" is there, that is whole. The machine's memory is as it was.\n", out);
+}
+
+static void write_known(const void *what, FILE *out)
+{
+    const told *t = what;
+    if (t->how == NULL)
+        write_later(t->d, out);
+    else if (t->d->settings.length != 0)
+        dump_words(out, &t->d->now->session, &t->d->settings);
+    else
+        fputs("All bytes are of earlier runs: the machine was not asked again.\n", out);
+    dumping_doubts(t->d, t->status, out);
+}
+
+static void write_end(const told *t, FILE *out)
+{
+    const dumping *d = t->d;
+    if (d->compared[0] != '\0')
+        fprintf(out, "twice: %s\n", d->compared);
+    write_file(d, &d->copies[0], "", t->file, out);
+    if (d->now == &d->copies[1] && t->status != 0)
+        write_file(d, d->now, "second ", d->now->part.name, out);
+}
+
+static void write_record(const void *what, FILE *out)
+{
+    const told *t = what;
+    const dumping *d = t->d;
+    fputs("dump: ", out);
+    if (t->how == NULL)
+        write_state(d, out);
+    else
+        fputs(t->how, out);
+    fputs("\n", out);
+    write_head(d, out);
     write_session(&d->copies[0], "", out);
     if (d->now == &d->copies[1])
         write_session(d->now, "second ", out);
-    if (d->compared[0] != '\0')
-        fprintf(out, "twice: %s\n", d->compared);
-    write_file(d, &d->copies[0], "", file, out);
-    if (d->now == &d->copies[1] && status != 0)
-        write_file(d, d->now, "second ", d->now->part.name, out);
-    if (d->settings.length != 0)
-        dump_words(out, &d->now->session, &d->settings);
-    dumping_doubts(d, status, out);
-}
-
-/* The text of a record, which the caller frees. */
-static char *text_of(const dumping *d, int status, const char *how, const char *file, body write)
-{
-    char *text = NULL;
-    size_t size = 0;
-    FILE *out = open_memstream(&text, &size);
-    if (out == NULL)
-        return NULL;
-    write_head(d, how, out);
-    write(d, status, file, out);
-    if (d->earlier != NULL)
-        write_earlier(d->earlier, out);
-    if (fclose(out) != 0) {
-        free(text);
-        return NULL;
+    if (t->how != NULL)
+        write_end(t, out);
+    else
+        write_part(&d->copies[0], "", out);
+    if (t->how == NULL && d->twice)
+        write_part(&d->copies[1], "second ", out);
+    record_known(out, write_known, what);
+    if (d->earlier != NULL) {
+        fputs("The record of the earlier run:\n", out);
+        record_lines(out, "> ", d->earlier);
     }
-    return text;
+    fputs(RECORD_END, out);
 }
 
-static int put(const dumping *d, char *text, int (*to)(const char *, const char *, mode_t))
+static int put(dumping *d, const told *t, int (*to)(record *, const char *))
 {
-    int status = text == NULL ? complain(STATUS_OTHER, "no memory") : to(d->path, text, d->mode);
+    char *text = record_text(write_record, t);
+    int status = to(&d->record, text);
     free(text);
     return status;
 }
 
-static char *under_way(const dumping *d)
+int report_first(dumping *d)
 {
-    return text_of(
-        d, 0, "under way, or ended without a word (killed, or the computer stopped)", d->path, body_under_way);
+    return put(d, &(told){.d = d}, d->resume ? record_again : record_first);
 }
 
-int report_first(const dumping *d)
+int report_running(dumping *d)
 {
-    return put(d, under_way(d), d->resume ? record_put : record_first);
+    return put(d, &(told){.d = d}, record_put);
 }
 
-int report_under_way(const dumping *d)
+int report_end(dumping *d, int status, const char *how, const char *file)
 {
-    return put(d, under_way(d), record_put);
-}
-
-int report_end(const dumping *d, int status, const char *how, const char *file)
-{
-    return put(d, text_of(d, status, how, file, body_end), record_put);
+    return put(d, &(told){d, status, how, file}, record_put);
 }

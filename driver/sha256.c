@@ -3,8 +3,6 @@
 #include <stdio.h>
 #include <string.h>
 
-#define BLOCK 64
-
 static const uint32_t rounds[64] = {0x428a2f98, 0x71374491, 0xb5c0fbcf, 0xe9b5dba5, 0x3956c25b, 0x59f111f1, 0x923f82a4,
     0xab1c5ed5, 0xd807aa98, 0x12835b01, 0x243185be, 0x550c7dc3, 0x72be5d74, 0x80deb1fe, 0x9bdc06a7, 0xc19bf174,
     0xe49b69c1, 0xefbe4786, 0x0fc19dc6, 0x240ca1cc, 0x2de92c6f, 0x4a7484aa, 0x5cb0a9dc, 0x76f988da, 0x983e5152,
@@ -48,21 +46,40 @@ static void take(uint32_t state[8], const uint8_t *block)
         state[i] += s[i];
 }
 
+sha256 sha256_start(void)
+{
+    return (sha256){
+        .state = {0x6a09e667, 0xbb67ae85, 0x3c6ef372, 0xa54ff53a, 0x510e527f, 0x9b05688c, 0x1f83d9ab, 0x5be0cd19}};
+}
+
+void sha256_add(sha256 *sum, const uint8_t *bytes, size_t length)
+{
+    while (length > 0) {
+        const size_t at = sum->length % SHA256_BLOCK, room = SHA256_BLOCK - at, part = length < room ? length : room;
+        memcpy(sum->block + at, bytes, part);
+        if (part == room)
+            take(sum->state, sum->block);
+        sum->length += part;
+        bytes += part;
+        length -= part;
+    }
+}
+
+void sha256_end(sha256 *sum, char text[SHA256_TEXT])
+{
+    uint8_t tail[SHA256_BLOCK + 8] = {0x80};
+    const size_t at = sum->length % SHA256_BLOCK;
+    const size_t size = (at < SHA256_BLOCK - 8 ? SHA256_BLOCK : 2 * SHA256_BLOCK) - at;
+    for (size_t i = 0; i < 8; i++)
+        tail[size - 1 - i] = (uint8_t)(sum->length * 8 >> 8 * i);
+    sha256_add(sum, tail, size);
+    for (size_t i = 0; i < 8; i++)
+        snprintf(text + 8 * i, 9, "%08x", (unsigned)sum->state[i]);
+}
+
 void sha256_text(const uint8_t *bytes, size_t length, char text[SHA256_TEXT])
 {
-    uint32_t state[8] = {
-        0x6a09e667, 0xbb67ae85, 0x3c6ef372, 0xa54ff53a, 0x510e527f, 0x9b05688c, 0x1f83d9ab, 0x5be0cd19};
-    uint8_t tail[2 * BLOCK] = {0};
-    size_t rest = length % BLOCK, size = rest < BLOCK - 8 ? BLOCK : 2 * BLOCK;
-    for (size_t at = 0; at + BLOCK <= length; at += BLOCK)
-        take(state, bytes + at);
-    if (rest != 0)
-        memcpy(tail, bytes + length - rest, rest);
-    tail[rest] = 0x80;
-    for (size_t i = 0; i < 8; i++)
-        tail[size - 1 - i] = (uint8_t)((uint64_t)length * 8 >> 8 * i);
-    for (size_t at = 0; at < size; at += BLOCK)
-        take(state, tail + at);
-    for (size_t i = 0; i < 8; i++)
-        snprintf(text + 8 * i, 9, "%08x", (unsigned)state[i]);
+    sha256 sum = sha256_start();
+    sha256_add(&sum, bytes, length);
+    sha256_end(&sum, text);
 }

@@ -1,14 +1,22 @@
 #include "words.h"
 
+#include <errno.h>
 #include <inttypes.h>
 #include <stdarg.h>
 #include <stdbool.h>
+#include <stdlib.h>
+#include <string.h>
 
 static const char *program = "mop";
 
 void words_program(const char *name)
 {
     program = name;
+}
+
+const char *words_name(void)
+{
+    return program;
 }
 
 static bool bar_stands;
@@ -25,17 +33,40 @@ void words_bar_end(void)
     bar_stands = false;
 }
 
+/* A name in the text may have control characters, which do not reach the terminal. */
+static void put_plain(const char *text)
+{
+    for (; *text != '\0'; text++)
+        if ((unsigned char)*text < ' ' || *text == 0x7F)
+            fprintf(stderr, "\\x%02X", (unsigned)(unsigned char)*text);
+        else
+            fputc(*text, stderr);
+}
+
 int complain(int status, const char *format, ...)
 {
+    char *text = NULL;
     va_list values;
     va_start(values, format);
     words_bar_end();
     fflush(stdout);
+    if (vasprintf(&text, format, values) < 0)
+        text = NULL;
     fprintf(stderr, "%s: ", program);
-    vfprintf(stderr, format, values);
+    put_plain(text == NULL ? format : text);
     fputc('\n', stderr);
     va_end(values);
+    free(text);
     return status;
+}
+
+/* An earlier write may have failed that the last one does not know of. */
+int words_written(void)
+{
+    errno = 0;
+    if (fflush(stdout) == 0 && ferror(stdout) == 0)
+        return 0;
+    return complain(STATUS_FILE, "standard output cannot be written: %s", strerror(errno == 0 ? EIO : errno));
 }
 
 void words_statuses(FILE *out, int first, int last)
@@ -59,7 +90,8 @@ void words_statuses(FILE *out, int first, int last)
         {STATUS_PERMISSION, "no permission to use the interface"},
         {STATUS_IMAGE, "the image is refused"},
         {STATUS_FILE, "a file cannot be read or written"},
-        {STATUS_IN_USE, "another mopload or mopdump uses the interface"},
+        {STATUS_IN_USE, "another mopload, mopdump or moploop uses the interface"},
+        {STATUS_MISMATCH, "a file is not the one that its record tells of"},
     };
     if (first == STATUS_FINISHED)
         fputs("EXIT STATUS\n", out);
@@ -144,6 +176,24 @@ int verdict_status(uint8_t verdict)
     return PICK(statuses, verdict, STATUS_OTHER);
 }
 
+const char *ending_words(int status, uint8_t verdict)
+{
+    switch (status) {
+    case STATUS_FINISHED:
+        return verdict_words(verdict);
+    case STATUS_SILENT:
+        return "no machine asked for what is served";
+    case STATUS_INTERRUPTED:
+        return "interrupted by a signal";
+    case STATUS_SHARED:
+        return "broken off: another program on this computer sent from the same address";
+    case STATUS_RESET:
+        return "confirmed, but the machine was reset in the middle of the load";
+    default:
+        return "broken off by an error";
+    }
+}
+
 void load_shared_words(FILE *out)
 {
     fputs("Broken off: two programs on this computer spoke to the machine from one address. What its memory holds is "
@@ -189,7 +239,7 @@ void dump_offers_words(FILE *out, uint64_t offers)
 
 /* ---- Loads ----------------------------------------------------------- */
 
-/* Whether a machine of the version that --version says stores the parameters in its memory too. The machine's own
+/* Whether a machine of the version that --protocol says stores the parameters in its memory too. The machine's own
  * version cannot be seen from here. */
 static bool has_block(const mop_load_settings *s)
 {
@@ -209,7 +259,7 @@ static void whole_words(FILE *out, bool confirmed)
 {
     fprintf(out,
         "%s memory holds the whole image, with the parameter block laid over it if the machine %sis of version 2.1 "
-        "(see --version). ",
+        "(see --protocol). ",
         confirmed ? "Its" : "The machine's", confirmed ? "" : "took the parameters and ");
 }
 
@@ -304,7 +354,7 @@ static void load_unconfirmed_words(FILE *out, const mop_load_settings *s, uint64
     if (s->with_parameters) {
         fprintf(out, "Unconfirmed: all %" PRIu64 " segments are confirmed, the parameters are not. ", image->segments);
         unanswered_words(out, image->transfer);
-        fputs(" A boot ROM may start the program without an answer, and a machine of another version than --version "
+        fputs(" A boot ROM may start the program without an answer, and a machine of another version than --protocol "
               "says may leave the parameters unanswered: look at the machine.\n",
             out);
         return;
@@ -335,6 +385,41 @@ void load_words(FILE *out, const mop_load *session, const mop_load_settings *set
     default:
         load_open_words(out, session, settings, image);
     }
+}
+
+/* ---- Loads that are not over ----------------------------------------- */
+
+void load_state_words(FILE *out, const mop_load *session, const mop_image *image, bool reset)
+{
+    const uint64_t c = session->position, n = image->segments;
+    if (session->waiting)
+        fputs("waiting: no load has begun, no segment was sent", out);
+    else if (c < n)
+        fprintf(out, "running: the first %" PRIu64 " or %" PRIu64 " of %" PRIu64 " segments are in", c, c + 1, n);
+    else
+        fprintf(out, "running: all %" PRIu64 " segments are in, the parameters may be", n);
+    if (reset)
+        fputs(", unless the machine was reset: it asked again", out);
+}
+
+void load_later_words(FILE *out, const mop_load *session, const mop_load_settings *settings, const mop_image *image)
+{
+    if (session->waiting) {
+        fputs("This was so when it was written; a load may have begun since.\n", out);
+        return;
+    }
+    fputs("This was so when it was written; more may be in by now. Of a machine that was reset since, nothing is "
+          "known.\n",
+        out);
+    if (settings->with_parameters)
+        fprintf(out,
+            "When the machine has all %" PRIu64 " segments and takes the parameters it is started at 0x%08" PRIX32
+            ", and not before.\n",
+            image->segments, image->transfer);
+    else
+        fprintf(out,
+            "When the machine has all %" PRIu64 " segments it is started at 0x%08" PRIX32 ", and not before.\n",
+            image->segments, image->transfer);
 }
 
 /* ---- Dumps ----------------------------------------------------------- */

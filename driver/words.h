@@ -25,11 +25,13 @@ typedef enum status {
     STATUS_PERMISSION = 12,
     STATUS_IMAGE = 13,
     STATUS_FILE = 14,
-    STATUS_IN_USE = 15
+    STATUS_IN_USE = 15,
+    STATUS_MISMATCH = 16
 } status;
 
 /* The program's name, for complain. */
 void words_program(const char *name);
+const char *words_name(void);
 
 /* A bar stands on the terminal's line; and the line's end, before anything
  * else is printed. */
@@ -38,6 +40,9 @@ void words_bar_end(void);
 
 /* Prints a sentence on standard error and gives the status back. */
 int complain(int status, const char *format, ...) __attribute__((format(printf, 2, 3)));
+
+/* Whether all that was printed is written: 0, or an exit status with the reason said. */
+int words_written(void);
 
 /* The table of exit statuses, for --help: those from first to last. */
 void words_statuses(FILE *out, int first, int last);
@@ -58,6 +63,14 @@ int verdict_status(uint8_t verdict);
 /* What a verdict means for the machine's memory, in whole sentences. */
 void load_words(FILE *out, const mop_load *session, const mop_load_settings *settings, const mop_image *image);
 void dump_words(FILE *out, const mop_dump *session, const mop_dump_settings *settings);
+
+/* How a session ended, in a few words: the verdict, or what came before it, by the exit status. */
+const char *ending_words(int status, uint8_t verdict);
+
+/* How a load stands that is not over, in a few words; the machine may have been heard to be reset. And what that means
+ * later on, in whole sentences: with them it stays true whatever happens. */
+void load_state_words(FILE *out, const mop_load *session, const mop_image *image, bool reset);
+void load_later_words(FILE *out, const mop_load *session, const mop_load_settings *settings, const mop_image *image);
 
 /* What casts doubt on a verdict, or takes its place. */
 void load_shared_words(FILE *out);
