@@ -8,7 +8,7 @@ OUT     = target/tests
 LIB     = target/staticlib/libmop.a
 SOURCES = $(shell find crates -name '*.rt' -o -name '*.antt') crates.txt
 
-.PHONY: test run explain frames lib compare compare-rehearsal bench needs trusted trusted-list header layout examples guards sanitize lint driver driver-sanitized fuzz driver-test line-bench simh
+.PHONY: test run explain frames lib compare compare-rehearsal bench needs trusted trusted-list header layout examples guards sanitize lint driver driver-sanitized fuzz driver-test line-bench simh dist
 
 # rt ci begins by removing target/, so it comes first; its last line is repeated at the end where all else passed.
 test: needs
@@ -32,14 +32,17 @@ target/bin/%: $(SOURCES)
 
 lib: $(LIB)
 
-# The calls for C stand in three crates, so that each is proved in seconds; one archive has them all.
+# The calls for C stand in three crates, so that each is proved in seconds; one archive has them all. When they were
+# proved, and by which kit, is kept for `make dist`.
 EXPORTS = mop_frames mop_steps mop_update
 
 $(LIB): $(SOURCES)
 	@mkdir -p target
 	@rt check $(EXPORTS) >target/lib.log 2>&1 || { cat target/lib.log; exit 1; }
+	@printf 'kit: %s\nchecked: %s\n' "$$(rt version)" "$$(date -u +%Y-%m-%dT%H:%M:%SZ)" >target/checked
 	@for crate in $(EXPORTS); do rt staticlib $$crate >target/lib.log 2>&1 || { cat target/lib.log; exit 1; }; done
 	@(echo create $@; for crate in $(EXPORTS); do echo addlib target/staticlib/lib$$crate.a; done; echo save) | ar -M
+	@mv target/checked target/staticlib/checked
 
 $(OUT)/libmop_plain.rlib: $(wildcard tests/independent/*.rs)
 	@mkdir -p $(OUT)
@@ -174,27 +177,19 @@ DRIVERSOURCES = $(wildcard driver/*.[ch] tests/driver/*.[ch] tests/fuzz/*.[ch])
 CPPCHECK = cppcheck --quiet --std=c11 --error-exitcode=1 --enable=warning,style,performance,portability -Iinclude
 TIDY     = clang-tidy --quiet --warnings-as-errors='*'
 # Of the driver's files one at a time: the analyzer of clang 14 takes what it knows of a va_list from file to file.
-lint: $(OUT)/page.inc $(OUT)/fields.inc
+lint: $(OUT)/page.inc $(OUT)/fields.inc target/version.inc
 	clang-format --dry-run -Werror $(CSOURCES) $(DRIVERSOURCES)
 	$(CPPCHECK) -I$(OUT) -DWRONG=1 $(filter %.c,$(CSOURCES))
-	$(CPPCHECK) -Idriver -D_GNU_SOURCE $(filter %.c,$(DRIVERSOURCES))
+	$(CPPCHECK) -Idriver -Itarget -D_GNU_SOURCE $(filter %.c,$(DRIVERSOURCES))
 	$(TIDY) $(filter %.c,$(CSOURCES)) -- -std=c11 -Iinclude -I$(OUT) -DWRONG=1
-	printf '%s\n' $(filter %.c,$(DRIVERSOURCES)) | xargs -P 2 -I FILE $(TIDY) FILE -- -std=c11 -Iinclude -Idriver -D_GNU_SOURCE
+	printf '%s\n' $(filter %.c,$(DRIVERSOURCES)) | xargs -P 2 -I FILE $(TIDY) FILE -- -std=c11 -Iinclude -Idriver -Itarget -D_GNU_SOURCE
 
 # The line driver: C programs over the library (driver/).
-DRIVER       = target/driver
-DRIVER_CC    = $(CC11) -D_GNU_SOURCE -Idriver
-PROGRAMS     = mopimage mopload mopdump mopmachine
-PARTS        = line lock privileges words options files part record report filing host progress parameters sha256 pieces hexfiles listing
+include driver/rules.mk
 
-driver: $(PROGRAMS:%=$(DRIVER)/%)
-
-$(DRIVER)/%.o: driver/%.c $(wildcard driver/*.h) include/mop.h
-	@mkdir -p $(DRIVER)
-	@$(DRIVER_CC) -c -o $@ $<
-
-$(PROGRAMS:%=$(DRIVER)/%): %: %.o $(PARTS:%=$(DRIVER)/%.o) $(LIB)
-	@gcc -o $@ $^
+# A release for a computer that has gcc and no kit, of what is in a commit; DIRTY=1 for a trial with changes.
+dist:
+	@MAKE="$(MAKE)" DIRTY="$(DIRTY)" tools/dist
 
 # What only the tests need.
 $(DRIVER)/probe $(DRIVER)/say $(DRIVER)/digest $(DRIVER)/storm: $(DRIVER)/%: tests/driver/%.c $(PARTS:%=$(DRIVER)/%.o) $(LIB)
@@ -202,10 +197,12 @@ $(DRIVER)/probe $(DRIVER)/say $(DRIVER)/digest $(DRIVER)/storm: $(DRIVER)/%: tes
 
 # The same programs with the address and undefined behaviour sanitizers, which most tests take.
 SANITIZED       = target/sanitized
-SANITIZED_TESTS = images records sums veth storm ends verdicts kept rights
-PLAIN_TESTS     = sums readme rom
+SANITIZED_TESTS = images records lda sums veth storm ends verdicts kept handover rights watch loop trace interfaces chart progress manuals
+PLAIN_TESTS     = sums readme rom dist
 
 driver-sanitized: $(PROGRAMS:%=$(SANITIZED)/%) $(SANITIZED)/say $(SANITIZED)/digest $(SANITIZED)/storm
+
+$(SANITIZED)/manual.o: target/version.inc
 
 $(SANITIZED)/%.o: driver/%.c $(wildcard driver/*.h) include/mop.h
 	@mkdir -p $(SANITIZED)
@@ -218,7 +215,7 @@ $(SANITIZED)/probe $(SANITIZED)/say $(SANITIZED)/digest $(SANITIZED)/storm: $(SA
 	@$(DRIVER_CC) $(SANITIZE) -o $@ $^
 
 # Mutated files and frames, always the same ones for a SEED. tests/fuzz/wrong tries whether the fuzzer finds faults.
-FUZZ  = main slow hex image many line host machine parameters
+FUZZ  = $(sort $(basename $(notdir $(wildcard tests/fuzz/*.c))))
 COUNT = 1000000
 SEED  = 1
 
@@ -244,6 +241,6 @@ line-bench: driver
 	@bash bench/line
 
 # The driver on a line of its own; tests/run does the same.
-driver-test: driver driver-sanitized $(DRIVER)/probe $(DRIVER)/say $(DRIVER)/digest simh target/bin/frames
+driver-test: driver driver-sanitized $(DRIVER)/probe $(DRIVER)/say $(DRIVER)/digest simh target/bin/frames target/bin/explain
 	@for test in $(SANITIZED_TESTS); do DRIVER_PROGRAMS=$(CURDIR)/$(SANITIZED) bash tests/driver/$$test || [ $$? = 77 ] || exit 1; done
 	@for test in $(PLAIN_TESTS); do bash tests/driver/$$test || [ $$? = 77 ] || exit 1; done

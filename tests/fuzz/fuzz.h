@@ -9,19 +9,28 @@
 
 #include "files.h"
 #include "line.h"
+#include "pieces.h"
+#include "slow.h"
 
 /* One input of each kind: whether it was accepted. */
 bool fuzz_srec(void);
 bool fuzz_ihex(void);
+bool fuzz_lda(void);
 bool fuzz_image(void);
 bool fuzz_many(void);
 bool fuzz_raw(void);
+bool fuzz_heard(void);
 bool fuzz_load(void);
 bool fuzz_dump(void);
 bool fuzz_machine(void);
 bool fuzz_name(void);
 bool fuzz_address(void);
 bool fuzz_time(void);
+bool fuzz_trace(void);
+bool fuzz_interface(void);
+bool fuzz_record(void);
+bool fuzz_transcript(void);
+bool fuzz_capture(void);
 
 /* Ends the run, with the kind and number of the input and its bytes. */
 _Noreturn void failed(const char *what);
@@ -65,6 +74,9 @@ void mutate(const char *letters);
 
 /* A copy that ends where its memory ends, so that a step beyond is seen. The caller frees bytes. */
 contents exact(void);
+
+/* What must hold of the pieces of a file and of the image made of them: whether one is made. */
+bool pieces_check(pieces *p, const slow *want);
 
 /* What must hold of an image file, good or bad: whether it is accepted. */
 bool image_check(const contents *file);

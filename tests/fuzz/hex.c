@@ -181,12 +181,12 @@ static void check_bytes(const contents *image, uint64_t segments, const slow *wa
         for (size_t k = 0; k < part.length; k++, n++)
             require(n < want->count && want->cells[n].address == (uint64_t)part.address + k &&
                         want->cells[n].byte == image->bytes[part.at + k],
-                "the image has the byte of the text");
+                "the image has the byte of the file");
     }
-    require(n == want->count, "the image has every byte of the text");
+    require(n == want->count, "the image has every byte of the file");
 }
 
-static bool check_image(pieces *p, const slow *want)
+bool pieces_check(pieces *p, const slow *want)
 {
     bool makes = want->count > 0 && !want->overlap && want->regions <= MOP_REGIONS_MOST;
     contents image = {NULL, 0};
@@ -215,7 +215,7 @@ static bool fuzz_text(bool motorola)
     require((status == 0) == want.good, "both readers take the text or neither does");
     bool made = false;
     if (want.good)
-        made = check_image(&p, &want);
+        made = pieces_check(&p, &want);
     else
         check_place(&want);
     pieces_free(&p);

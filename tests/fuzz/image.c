@@ -6,6 +6,7 @@
 #include "fuzz.h"
 #include "listing.h"
 #include "slow.h"
+#include "svgscan.h"
 
 /* Regions of up to 20 bytes with gaps between; their bytes may be shared. */
 static void make_image(void)
@@ -119,6 +120,8 @@ bool image_check(const contents *file)
     check_words(file, image, entry);
     if (image.refusal != MOP_ACCEPTED)
         return false;
+    if (one_in(10))
+        scan_map(file, image);
     uint64_t any = below((uint32_t)image.segments), last = image.segments - 1;
     check_region(file, mop_image_segment(file->bytes, file->length, size, any), image);
     check_region(file, mop_image_segment(file->bytes, file->length, size, last), image);

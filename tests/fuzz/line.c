@@ -75,7 +75,7 @@ static void check_type(line *l, const contents *raw, bool good)
     line_frame frame;
     uint8_t type = types[below(sizeof types)];
     line_event want = LINE_QUIET;
-    if (raw->length < HEADER) /* no Ethernet frame */
+    if (raw->length < LINE_HEADER) /* no Ethernet frame */
         return;
     l->alone = one_in(2);
     if (type == PACKET_OUTGOING && l->alone && memcmp(raw->bytes + 6, OWN, 6) == 0)

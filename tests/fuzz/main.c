@@ -27,6 +27,13 @@ static const kind kinds[] = {
     {"addresses", "accepted", fuzz_address, 1},
     {"times", "accepted", fuzz_time, 1},
     {"images of many regions", "accepted", fuzz_many, 4000},
+    {"LDA files", "became images", fuzz_lda, 1},
+    {"records", "whole", fuzz_record, 4},
+    {"frames that are heard", "readable", fuzz_heard, 1},
+    {"traces that are there already", "appended to", fuzz_trace, 1},
+    {"answers on an interface", "warned of", fuzz_interface, 1},
+    {"transcripts", "drawn", fuzz_transcript, 10},
+    {"captures", "drawn", fuzz_capture, 10},
 };
 
 static const kind *now;

@@ -121,7 +121,7 @@ static int by_address(const void *one, const void *other)
     return a < b ? -1 : a > b;
 }
 
-static void judge_cells(slow *s)
+void slow_judge(slow *s)
 {
     qsort(s->cells, s->count, sizeof s->cells[0], by_address);
     s->regions = s->count > 0;
@@ -154,7 +154,7 @@ void slow_text(slow *s, const uint8_t *text, size_t length, bool motorola)
         s->line = 0;
     }
     if (s->good)
-        judge_cells(s);
+        slow_judge(s);
 }
 
 /* ---- The image file -------------------------------------------------- */

@@ -28,6 +28,9 @@ typedef struct slow {
 
 void slow_text(slow *s, const uint8_t *text, size_t length, bool motorola);
 
+/* Sorts the cells, and finds whether they overlap and how many regions they are. */
+void slow_judge(slow *s);
+
 /* How many regions the trailer of an image file says, and whether their directory ends where the trailer begins; in a file of
  * 16 bytes or more. */
 uint64_t slow_count(const uint8_t *file, size_t length);
