@@ -132,13 +132,15 @@ static void draw_arrow(FILE *out, const plan *p, const chart_arrow *a)
     const svg_point from = {x_of(a->sender), y_of(p, a->from)};
     const svg_point to = {a->sender == CHART_HOST ? MACHINE_X : HOST_X, y_of(p, a->to)};
     const svg_point middle = {(from.x + to.x) / 2, to.y};
+    const svg_point near_end = {(from.x + 3 * to.x) / 4, (from.y + 3 * to.y) / 4 + 4};
     switch (a->way) {
     case CHART_CAME:
         svg_arrow(out, from, to, SVG_SOLID, colour);
         break;
     case CHART_DOUBLE:
         svg_arrow(out, from, to, SVG_DASHED, colour);
-        svg_text(out, (svg_point){middle.x, (from.y + to.y) / 2 + 4}, SVG_OVER, SVG_MIDDLE, "came twice");
+        if (is_drawn(p, (size_t)a->to / 4))
+            svg_text(out, near_end, SVG_OVER, SVG_MIDDLE, "came twice");
         break;
     case CHART_LOST:
         svg_line(out, from, middle, SVG_SOLID, colour);

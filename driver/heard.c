@@ -68,21 +68,10 @@ bool heard_read(heard *h, const uint8_t *raw, size_t length)
 
 /* ---- In words -------------------------------------------------------- */
 
-/* The name of a code that is not told in other words. */
-static const char *code_words(const heard *h)
+/* The name of a code of the remote console. */
+static const char *console_words(uint8_t code)
 {
-    static const char *const load[] = {
-        [MOP_CODE_LOAD_TRANSFER] = "memory load with transfer",
-        [MOP_CODE_DUMP_COMPLETE] = "dump complete",
-        [MOP_CODE_LOAD] = "memory load",
-        [MOP_CODE_REQUEST_DUMP] = "request memory dump",
-        [MOP_CODE_REQUEST_LOAD] = "request memory load",
-        [MOP_CODE_DUMP_DATA] = "memory dump data",
-        [MOP_CODE_PARAMETERS] = "parameter load with transfer",
-        [MOP_CODE_LOOP] = "loop data",
-        [MOP_CODE_LOOPED] = "looped data",
-    };
-    static const char *const console[] = {
+    static const char *const names[] = {
         [5] = "request id",
         [6] = "boot",
         [9] = "request counters",
@@ -92,9 +81,7 @@ static const char *code_words(const heard *h)
         [17] = "console command and poll",
         [19] = "console response and acknowledge",
     };
-    const uint8_t code = h->message[0];
-    const size_t count = h->type == TYPE_LOAD ? sizeof load / sizeof load[0] : sizeof console / sizeof console[0];
-    const char *name = code >= count ? NULL : h->type == TYPE_LOAD ? load[code] : console[code];
+    const char *name = code < sizeof names / sizeof names[0] ? names[code] : NULL;
     return name == NULL ? "not listed" : name;
 }
 
@@ -174,6 +161,7 @@ void heard_words(FILE *out, const heard *h)
         break;
     default:
         fprintf(out, "sends %s code %d of type %02X-%02X (%s), %zu byte%s", to, h->message[0], h->type >> 8,
-            h->type & 0xFF, code_words(h), h->length, h->length == 1 ? "" : "s");
+            h->type & 0xFF, h->type == TYPE_LOAD ? code_words(h->message[0]) : console_words(h->message[0]), h->length,
+            h->length == 1 ? "" : "s");
     }
 }

@@ -2,6 +2,7 @@
 
 #include <inttypes.h>
 #include <stdarg.h>
+#include <stdbool.h>
 #include <stdio.h>
 #include <string.h>
 
@@ -83,30 +84,15 @@ static void say_detail(char text[LABEL_TEXT], const uint8_t *frame, const mop_fi
     }
 }
 
-/* The messages' names (docs/PROTOCOL.md, section 2), and whether a number stands behind. */
+/* The message's name, with its number where it has one. */
 static void say_name(char text[LABEL_TEXT], const mop_fields *f)
 {
-    static const struct {
-        const char *words;
-        uint8_t numbered;
-    } names[] = {
-        [MOP_CODE_LOAD_TRANSFER] = {"memory load with transfer", 1},
-        [MOP_CODE_DUMP_COMPLETE] = {"dump complete", 0},
-        [MOP_CODE_LOAD] = {"memory load", 1},
-        [MOP_CODE_VOLUNTEER] = {"assistance volunteer", 0},
-        [MOP_CODE_REQUEST_DUMP] = {"request memory dump", 0},
-        [MOP_CODE_REQUEST_PROGRAM] = {"request program", 0},
-        [MOP_CODE_REQUEST_LOAD] = {"request memory load", 1},
-        [MOP_CODE_REQUEST_DUMP_SERVICE] = {"request dump service", 0},
-        [MOP_CODE_DUMP_DATA] = {"memory dump data", 0},
-        [MOP_CODE_PARAMETERS] = {"parameter load with transfer", 1},
-        [MOP_CODE_LOOP] = {"loop data", 0},
-        [MOP_CODE_LOOPED] = {"looped data", 0},
-    };
-    if (names[f->code].numbered)
-        say(text, "%s %d", names[f->code].words, f->number);
+    const bool numbered = f->code == MOP_CODE_LOAD_TRANSFER || f->code == MOP_CODE_LOAD ||
+                          f->code == MOP_CODE_REQUEST_LOAD || f->code == MOP_CODE_PARAMETERS;
+    if (numbered)
+        say(text, "%s %d", code_words(f->code), f->number);
     else
-        say(text, "%s", names[f->code].words);
+        say(text, "%s", code_words(f->code));
 }
 
 label label_of(const uint8_t *frame, size_t length)

@@ -125,6 +125,25 @@ const char *refusal_words(uint8_t refusal)
     return PICK(words, refusal, "a refusal without a meaning");
 }
 
+const char *code_words(uint8_t code)
+{
+    static const char *const names[] = {
+        [MOP_CODE_LOAD_TRANSFER] = "memory load with transfer",
+        [MOP_CODE_DUMP_COMPLETE] = "dump complete",
+        [MOP_CODE_LOAD] = "memory load",
+        [MOP_CODE_VOLUNTEER] = "assistance volunteer",
+        [MOP_CODE_REQUEST_DUMP] = "request memory dump",
+        [MOP_CODE_REQUEST_PROGRAM] = "request program",
+        [MOP_CODE_REQUEST_LOAD] = "request memory load",
+        [MOP_CODE_REQUEST_DUMP_SERVICE] = "request dump service",
+        [MOP_CODE_DUMP_DATA] = "memory dump data",
+        [MOP_CODE_PARAMETERS] = "parameter load with transfer",
+        [MOP_CODE_LOOP] = "loop data",
+        [MOP_CODE_LOOPED] = "looped data",
+    };
+    return code < sizeof names / sizeof names[0] && names[code] != NULL ? names[code] : "not listed";
+}
+
 const char *program_words(uint8_t type)
 {
     static const char *const words[] = {

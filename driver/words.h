@@ -50,6 +50,9 @@ void words_statuses(FILE *out, int first, int last);
 /* Why the library refused: one of the numbers of mop.h. */
 const char *refusal_words(uint8_t refusal);
 
+/* A message's name (docs/PROTOCOL.md, section 2): MOP_CODE_.. */
+const char *code_words(uint8_t code);
+
 /* What a request program asks for: MOP_PROGRAM_.. */
 const char *program_words(uint8_t type);
 
