@@ -57,6 +57,9 @@ void dumping_counts(const copy *c, FILE *out);
 /* The offers that may be of a machine that was restarted. */
 uint64_t dumping_offers(const dumping *d);
 
+/* What the verdict of the session under way, or of the last, means, in sentences; status is how it ended. */
+void dumping_words(const dumping *d, int status, FILE *out);
+
 /* What is to be told besides the verdict, in sentences. */
 void dumping_doubts(const dumping *d, int status, FILE *out);
 

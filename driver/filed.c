@@ -152,13 +152,18 @@ static char *find_record(const char *path)
     return NULL;
 }
 
-/* The one of the record's files that has this name, or else the first. */
+/* The one of the record's files that has this name, or else the first; of that one the record's name is said. */
 static const recorded_file *find_file(const recorded *r, const char *record, const char *path)
 {
     char name[RECORDED_NAME];
     for (size_t i = 0; i < r->count; i++)
-        if (recorded_name(r, i, record_base(record), name) && strcmp(name, record_base(path)) == 0)
+        if (recorded_name(r, i, record_base(record), name) && strcmp(record_base(name), record_base(path)) == 0)
             return &r->files[i];
+    if (r->count > 0 && recorded_name(r, 0, record_base(record), name)) {
+        fputs("The record calls the file ", stdout);
+        record_name(stdout, name);
+        puts(".");
+    }
     return &r->files[0];
 }
 
@@ -188,7 +193,7 @@ int filed_verify(const char *path)
     static recorded r;
     contents text = {NULL, 0};
     char *record = find_record(path);
-    int status = record == NULL ? STATUS_FILE : file_read(record, RECORDED_MOST, &text);
+    int status = record == NULL ? STATUS_FILE : file_read_regular(record, RECORDED_MOST, &text);
     if (status == 0 && !recorded_read(text.bytes, text.length, &r))
         status = complain(STATUS_MISMATCH, "%s is damaged: %s", record, r.damage);
     if (status == 0)

@@ -36,12 +36,8 @@ static int read_to(FILE *in, const char *path, size_t most, contents *file)
     }
 }
 
-int file_read(const char *path, size_t most, contents *file)
+static int read_all(FILE *in, const char *path, size_t most, contents *file)
 {
-    *file = (contents){NULL, 0};
-    FILE *in = fopen(path, "rbe");
-    if (in == NULL)
-        return cannot(path, "read");
     int status = read_to(in, path, most, file);
     (void)fclose(in);
     if (status != 0) {
@@ -49,6 +45,28 @@ int file_read(const char *path, size_t most, contents *file)
         *file = (contents){NULL, 0};
     }
     return status;
+}
+
+int file_read(const char *path, size_t most, contents *file)
+{
+    *file = (contents){NULL, 0};
+    FILE *in = fopen(path, "rbe");
+    return in == NULL ? cannot(path, "read") : read_all(in, path, most, file);
+}
+
+/* What else has the name is not opened: a pipe may wait. */
+int file_read_regular(const char *path, size_t most, contents *file)
+{
+    struct stat is;
+    *file = (contents){NULL, 0};
+    if (stat(path, &is) != 0)
+        return cannot(path, "read");
+    const char *kind = kind_words(is.st_mode);
+    if (kind != NULL)
+        return complain(STATUS_FILE, "%s cannot be read: it is %s", path, kind);
+    const int fd = open(path, O_RDONLY | O_CLOEXEC | O_NONBLOCK | O_NOCTTY);
+    FILE *in = fd < 0 ? NULL : fdopen(fd, "rb");
+    return in == NULL ? cannot(path, "read") : read_all(in, path, most, file);
 }
 
 static int name_part(aside *a)

@@ -13,8 +13,9 @@ typedef struct contents {
 } contents;
 
 /* A file of at most most bytes: 0, or an exit status with the reason said.
- * The caller frees bytes. */
+ * The caller frees bytes. The second refuses what is no regular file. */
 int file_read(const char *path, size_t most, contents *file);
+int file_read_regular(const char *path, size_t most, contents *file);
 
 /* What is no regular file, in words ("a directory"); NULL for one that is. */
 const char *kind_words(mode_t mode);

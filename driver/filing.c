@@ -118,9 +118,9 @@ static int take_up(dumping *d)
     char *name = name_with(d->path, ".part");
     int status = name != NULL ? 0 : STATUS_OTHER;
     if (status == 0)
-        status = file_read(name, (size_t)d->range.length, &came);
+        status = file_read_regular(name, (size_t)d->range.length, &came);
     if (status == 0)
-        status = file_read(d->record.name, RECORDED_MOST, &text);
+        status = file_read_regular(d->record.name, RECORDED_MOST, &text);
     if (status == 0)
         status = part_again(&d->copies[0].part, d->path, d->range.length, came.length, &d->mode);
     d->earlier = strndup(text.bytes == NULL ? "" : (const char *)text.bytes, text.length);
@@ -273,7 +273,8 @@ static int file_finished(dumping *d)
     if (d->twice)
         part_remove(&d->copies[1].part);
     int recorded = report_end(d, 0, "finished", d->path);
-    printf("%s is on the disk%s.\n", d->path, recorded == 0 ? ", with its record" : ", but without a record");
+    printf("%s is on the disk%s.\n", d->path,
+        recorded == 0 ? ", with its record" : "; its record could not be written, and tells of an earlier moment");
     return recorded;
 }
 
@@ -304,7 +305,7 @@ int filing_conclude(dumping *d, int status)
 {
     words_bar_end();
     if (d->settings.length != 0) {
-        dump_words(stdout, &d->now->session, &d->settings);
+        dumping_words(d, status, stdout);
         dumping_counts(d->now, stdout);
     }
     bool whole = status == 0 && (d->settings.length == 0 || d->now->session.verdict == MOP_DUMP_FINISHED);

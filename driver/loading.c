@@ -41,17 +41,25 @@ static void tell_rejected(const loading *l, FILE *out)
         image_region(&l->file, l->image, segment.address));
 }
 
+/* A machine that asks again behind its last frame may have been started. */
+static bool is_doubted(const loading *l)
+{
+    return l->resets > 0 && (l->session.verdict != MOP_LOAD_UNCONFIRMED || l->early);
+}
+
 void loading_end(const loading *l, int status, FILE *out)
 {
     if (status == STATUS_SHARED)
         load_shared_words(out);
+    else if (is_doubted(l))
+        load_doubted_words(out, &l->session, &l->settings, &l->image);
     else
         load_words(out, &l->session, &l->settings, &l->image);
     tell_rejected(l, out);
     if (l->session.restarts > 0 && status != STATUS_SHARED)
         load_restarts_words(out, l->session.restarts);
     if (l->resets > 0)
-        load_reset_words(out, l->resets, l->session.verdict == MOP_LOAD_UNCONFIRMED && !l->early, l->settings.restart);
+        load_reset_words(out, l->resets, !is_doubted(l), l->settings.restart);
 }
 
 int loading_status(const loading *l, int status)
@@ -85,6 +93,7 @@ static void write_settings(const loading *l, FILE *out)
         l->settings.version == MOP_VERSION_2_1 ? "2.1" : "3.0", l->settings.restart ? ", restart" : "");
     if (l->accept != MOP_PROGRAM_SYSTEM)
         fprintf(out, ", accepts type %" PRIu32, l->accept);
+    record_rehearsed(out, &l->host->settings.line);
     fputs("\n", out);
     if (!l->parameters.given)
         return;

@@ -70,8 +70,10 @@ static host_stage stage(const void *job)
 static void after(void *job)
 {
     dumping *d = job;
-    if (!d->now->session.waiting)
-        progress_show(&d->progress, dumping_came(d, d->now), dumping_repeats(&d->now->session));
+    if (d->now->session.waiting)
+        return;
+    filing_step(d); /* an offer to all hosts is no step, and is told too */
+    progress_show(&d->progress, dumping_came(d, d->now), dumping_repeats(&d->now->session));
 }
 
 static const host_job calls = {before, step, begins, stage, after};

@@ -169,8 +169,10 @@ static void show(void *job)
     }
     if (l->restarts != l->session.restarts)
         tell_restart(l);
-    if (l->begun)
-        progress_show(&l->progress, l->session.position, loading_repeats(l));
+    if (!l->begun)
+        return;
+    loading_record_step(l); /* a request to all hosts is no step, and tells of a reset too */
+    progress_show(&l->progress, l->session.position, loading_repeats(l));
 }
 
 static const host_job calls = {before, step, begins, stage, show};

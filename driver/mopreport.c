@@ -20,6 +20,7 @@
 typedef struct entry {
     char *name;
     bool record;
+    bool dump; /* a whole record, and of a dump */
     bool told;
     int reason;               /* why it cannot be read, or 0 */
     char date[RECORDED_DATE]; /* empty for a damaged one */
@@ -90,8 +91,10 @@ static int add(listing *l, const char *name)
     const int reason = record_of(l, name, &text);
     entry *e = &l->entries[l->count++];
     *e = (entry){.name = copy, .record = text.length > 0, .reason = reason};
-    if (e->record && recorded_read(text.at, text.length, &r))
+    if (e->record && recorded_read(text.at, text.length, &r)) {
         memcpy(e->date, r.date, sizeof e->date);
+        e->dump = !r.load;
+    }
     return 0;
 }
 
@@ -126,6 +129,30 @@ static int by_date(const void *one, const void *other)
     return dates != 0 ? dates : by_name(one, other);
 }
 
+static entry *find(const listing *l, char *name)
+{
+    return bsearch(&(entry){.name = name}, l->entries, l->count, sizeof *l->entries, by_name);
+}
+
+/* A dump's bytes are the machine's, and may begin as a record does: the files of NAME.record are none. */
+static void pass_over_dumps(const listing *l)
+{
+    static const char *const endings[] = {"", ".part", ".second.part"};
+    static const char ending[] = ".record";
+    char name[RECORDED_NAME];
+    for (size_t i = 0; i < l->count; i++) {
+        const size_t length = strlen(l->entries[i].name), size = sizeof ending - 1;
+        if (!l->entries[i].dump || length <= size || strcmp(l->entries[i].name + length - size, ending) != 0)
+            continue;
+        for (size_t j = 0; j < sizeof endings / sizeof endings[0]; j++) {
+            snprintf(name, sizeof name, "%.*s%s", (int)(length - size), l->entries[i].name, endings[j]);
+            entry *e = find(l, name);
+            if (e != NULL)
+                e->record = false;
+        }
+    }
+}
+
 /* The records in the order of their dates; the caller frees it. */
 static entry *records_of(const listing *l, size_t *count)
 {
@@ -148,8 +175,9 @@ static void tell_file(listing *l, const recorded *r, size_t i, const char *recor
     filed f = {.result = FILED_ABSENT};
     const recorded_file *told = &r->files[i];
     if (recorded_name(r, i, record, name))
-        f = r->open ? filed_check_open(l->directory, name, told) : filed_check(l->directory, name, false, told);
-    entry *e = bsearch(&(entry){.name = f.name}, l->entries, l->count, sizeof *l->entries, by_name);
+        f = r->open && !r->load ? filed_check_open(l->directory, name, told)
+                                : filed_check(l->directory, name, false, told);
+    entry *e = find(l, strncmp(f.name, "./", 2) == 0 ? f.name + 2 : f.name);
     if (e != NULL)
         e->told = true;
     l->found[f.result] += 1;
@@ -195,38 +223,48 @@ static void tell_record(listing *l, const entry *e)
     putchar('\n');
 }
 
-/* What is no record, and what none tells of. */
+/* A file that is no record, or cannot be read. */
 static void tell_other(listing *l, const entry *e)
 {
     struct stat is;
-    fputs("  ", stdout);
-    record_name(stdout, e->name);
     const char *kind = NULL;
     const int fd = filed_open(l->directory, e->name, false, &kind);
+    const bool regular = fd >= 0 && fstat(fd, &is) == 0;
+    fputs("  ", stdout);
+    record_name(stdout, e->name);
     if (kind != NULL)
         printf(" is %s\n", kind);
-    else if (fd < 0 || fstat(fd, &is) != 0)
-        tell_unreadable(l, errno);
-    else if (e->reason != 0)
-        tell_unreadable(l, e->reason);
+    else if (!regular || e->reason != 0)
+        tell_unreadable(l, regular ? e->reason : errno);
     else
         printf(", %" PRIu64 " bytes\n", (uint64_t)is.st_size);
     if (fd >= 0)
         close(fd);
 }
 
-static void tell_others(listing *l)
+/* What is no record and no record tells of; or, of these, what cannot be read and so may be one. */
+static uint64_t tell_others(listing *l, bool readable, const char *heading)
 {
     uint64_t others = 0;
     for (size_t i = 0; i < l->count; i++) {
         const entry *e = &l->entries[i];
-        if (e->record || e->told)
+        if (e->record || e->told || (e->reason == 0) != readable)
             continue;
         if (others++ == 0)
-            puts("No record tells of:");
+            puts(heading);
         tell_other(l, e);
     }
-    puts(others == 0 ? "There is no file that no record tells of.\n" : "");
+    if (others > 0)
+        putchar('\n');
+    return others;
+}
+
+static void tell_rest(listing *l)
+{
+    const uint64_t unread = tell_others(l, false, "Cannot be read, and may be records:");
+    const char *heading = unread > 0 ? "No record that could be read tells of:" : "No record tells of:";
+    if (tell_others(l, true, heading) == 0 && unread == 0)
+        puts("There is no file that no record tells of.\n");
 }
 
 static void tell_totals(const listing *l)
@@ -236,6 +274,8 @@ static void tell_totals(const listing *l)
            " are not there, %" PRIu64 " cannot be read.\n",
         l->loads, l->dumps, l->damaged, l->found[FILED_SAME], l->found[FILED_OPEN], l->found[FILED_OTHER],
         l->found[FILED_ABSENT], l->found[FILED_UNREADABLE]);
+    if (l->unreadable > 0)
+        printf("Other files that cannot be read, and may be records: %" PRIu64 ".\n", l->unreadable);
 }
 
 static int status_of(const listing *l)
@@ -250,16 +290,18 @@ static int tell(listing *l)
     size_t count = 0;
     if (l->count > 0)
         qsort(l->entries, l->count, sizeof *l->entries, by_name);
+    pass_over_dumps(l);
     entry *records = records_of(l, &count);
     if (records == NULL)
         return complain(STATUS_OTHER, "no memory");
     fputs("The records of ", stdout);
     record_name(stdout, l->path);
-    printf(", whose files were read again by mopreport of Kochipurn, commit %s:\n\n", program_version);
+    record_date(stdout, ", whose files were read again on ", time(NULL));
+    printf(" by mopreport of Kochipurn, commit %s:\n\n", program_version);
     for (size_t i = 0; i < count; i++)
         tell_record(l, &records[i]);
     free(records);
-    tell_others(l);
+    tell_rest(l);
     tell_totals(l);
     if (words_written() != 0)
         return STATUS_FILE;
@@ -282,11 +324,12 @@ static const char manual[] = "NAME\n"
                              "  again now, and its length and SHA-256 are compared with the record's. At the\n"
                              "  end stand the files that no record tells of, and totals.\n"
                              "\n"
-                             "  A record is known by how it begins, whatever its name; those of older\n"
-                             "  versions are read too. One that is cut short or altered beyond reading is\n"
-                             "  listed as damaged, with the reason. Nothing protects a record from being\n"
-                             "  altered on purpose: the SHA-256 shows that the file is the one of the\n"
-                             "  record, and not that the record is the one that was written.\n"
+                             "  A record is known by how it begins, whatever its name; but the files that a\n"
+                             "  dump's record, NAME.record, is of are none, as their bytes are the machine's.\n"
+                             "  Records of older versions are read too. One that is cut short or altered\n"
+                             "  beyond reading is listed as damaged, with the reason. Nothing protects a\n"
+                             "  record from being altered on purpose: the SHA-256 shows that the file is the\n"
+                             "  one of the record, and not that the record is the one that was written.\n"
                              "\n"
                              "  A record of a load or dump that is not over, or whose program was killed,\n"
                              "  says what was known when it was written. Such a dump has no SHA-256 yet: of\n"

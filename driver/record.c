@@ -2,6 +2,7 @@
 
 #include <errno.h>
 #include <fcntl.h>
+#include <inttypes.h>
 #include <libgen.h>
 #include <stdlib.h>
 #include <string.h>
@@ -17,20 +18,45 @@
 
 /* ---- The file -------------------------------------------------------- */
 
-/* The whole text into a file, on the disk. */
-static bool write_text(const char *name, const char *text, int how, mode_t mode)
+static bool write_all(int fd, const char *text, size_t length)
 {
-    size_t length = strlen(text);
-    int fd = open(name, O_WRONLY | O_CREAT | O_CLOEXEC | O_NOFOLLOW | how, mode);
+    while (length > 0) {
+        const ssize_t n = write(fd, text, length);
+        if (n < 0 && errno == EINTR)
+            continue;
+        if (n == 0)
+            errno = ENOSPC;
+        if (n <= 0)
+            return false;
+        text += n;
+        length -= (size_t)n;
+    }
+    return true;
+}
+
+/* The whole text into a file, on the disk; which file that is. */
+static bool write_text(const char *name, const char *text, mode_t mode, struct stat *is)
+{
+    int fd = open(name, O_WRONLY | O_CREAT | O_CLOEXEC | O_NOFOLLOW | O_EXCL, mode);
     if (fd < 0)
         return false;
-    bool good = fchmod(fd, mode) == 0 && write(fd, text, length) == (ssize_t)length && fsync(fd) == 0;
+    bool good = fchmod(fd, mode) == 0 && write_all(fd, text, strlen(text)) && fsync(fd) == 0 && fstat(fd, is) == 0;
     int reason = errno;
     close(fd);
     if (!good)
         unlink(name);
     errno = reason;
     return good;
+}
+
+/* Whether another file than the one that was put last has the record's name. */
+static bool is_taken(const record *r)
+{
+    struct stat there;
+    const int reason = errno;
+    const bool stands = r->placed && lstat(r->name, &there) == 0;
+    errno = reason;
+    return stands && (there.st_dev != r->device || there.st_ino != r->inode);
 }
 
 static int cannot(record *r, const char *name)
@@ -57,22 +83,29 @@ static bool is_draft(const char *name)
     return length == 0 || (length > 0 && recorded_begins(first, (size_t)length));
 }
 
-/* The draft is whole before it becomes the record. */
-static int put(record *r, const char *text, int how, int (*name_it)(const char *, const char *))
+static bool name_draft(const record *r, const char *draft, int (*name_it)(const char *, const char *))
 {
+    errno = EEXIST;
+    return !is_taken(r) && name_it(draft, r->name) == 0;
+}
+
+/* The draft is whole before it becomes the record. */
+static int put(record *r, const char *text, int (*name_it)(const char *, const char *))
+{
+    struct stat is = {.st_ino = 0};
     if (text == NULL)
         return complain(STATUS_OTHER, "no memory");
     char *draft = name_with(r->name, ".part");
     if (draft == NULL)
         return STATUS_OTHER;
     int status = 0;
-    if (!write_text(draft, text, how, r->mode)) {
+    if (!write_text(draft, text, r->mode, &is)) {
         status = cannot(r, draft);
-    } else if (name_it(draft, r->name) != 0) {
+    } else if (!name_draft(r, draft, name_it)) {
         status = cannot(r, r->name);
         unlink(draft);
     } else {
-        r->failed = false;
+        *r = (record){r->name, r->mode, false, true, is.st_dev, is.st_ino};
         directory_sync(r->name);
     }
     free(draft);
@@ -81,7 +114,7 @@ static int put(record *r, const char *text, int how, int (*name_it)(const char *
 
 int record_first(record *r, const char *text)
 {
-    return put(r, text, O_EXCL, rename_free);
+    return put(r, text, rename_free);
 }
 
 int record_again(record *r, const char *text)
@@ -92,17 +125,18 @@ int record_again(record *r, const char *text)
     if (is_draft(draft))
         unlink(draft);
     free(draft);
-    return put(r, text, O_EXCL, rename);
+    return put(r, text, rename);
 }
 
 int record_put(record *r, const char *text)
 {
-    return put(r, text, O_EXCL, rename);
+    return put(r, text, rename);
 }
 
 void record_remove(const record *r)
 {
-    unlink(r->name);
+    if (!is_taken(r))
+        unlink(r->name);
 }
 
 /* ---- Its text -------------------------------------------------------- */
@@ -138,23 +172,31 @@ void record_known(FILE *out, record_writer write, const void *what)
     free(text);
 }
 
-static void write_date(FILE *out, const char *heading, time_t when)
+void record_date(FILE *out, const char *heading, time_t when)
 {
     char date[32];
     struct tm utc;
     if (gmtime_r(&when, &utc) == NULL || strftime(date, sizeof date, "%Y-%m-%dT%H:%M:%SZ", &utc) == 0)
         date[0] = '\0';
-    fprintf(out, "%s%s\n", heading, date);
+    fprintf(out, "%s%s", heading, date);
 }
 
 void record_head(FILE *out, time_t begun, const line *l)
 {
     char own[ADDRESS_TEXT];
-    write_date(out, "written: ", time(NULL));
+    record_date(out, "written: ", time(NULL));
     if (begun != 0)
-        write_date(out, "begun: ", begun);
-    fprintf(out, "version: %s of Kochipurn, commit %s\n", words_name(), program_version);
+        record_date(out, "\nbegun: ", begun);
+    fprintf(out, "\nversion: %s of Kochipurn, commit %s\n", words_name(), program_version);
     fprintf(out, "host: %s, interface %s\n", address_text(l->address, own), l->name);
+}
+
+void record_rehearsed(FILE *out, const line_settings *settings)
+{
+    if (settings->drop != 0)
+        fprintf(out, ", 1 frame of %" PRIu32 " lost on purpose", settings->drop);
+    if (settings->twice != 0)
+        fprintf(out, ", 1 frame of %" PRIu32 " doubled on purpose", settings->twice);
 }
 
 /* ---- Names ----------------------------------------------------------- */
@@ -187,15 +229,15 @@ void record_name(FILE *out, const char *name)
     quoted_words(out, (const uint8_t *)name, strlen(name));
 }
 
-/* As sha256sum writes it: behind a backslash where the name has one, or the end of a line. To it - alone is no file. */
+/* As sha256sum writes it: behind a backslash where the name has one, or what ends a line. To it - alone is no file. */
 void record_sum(FILE *out, const char *sum, const char *name)
 {
-    fprintf(out, "%s%s  %s", strpbrk(name, "\\\n") == NULL ? "" : "\\", sum, strcmp(name, "-") == 0 ? "./" : "");
-    for (; *name != '\0'; name++)
-        if (*name == '\\' || *name == '\n')
-            fputs(*name == '\n' ? "\\n" : "\\\\", out);
-        else
-            fputc(*name, out);
+    fprintf(out, "%s%s  %s", strpbrk(name, "\\\n\r") == NULL ? "" : "\\", sum, strcmp(name, "-") == 0 ? "./" : "");
+    for (; *name != '\0'; name++) {
+        if (strchr("\\\n\r", *name) != NULL)
+            fputc('\\', out);
+        fputc(*name == '\n' ? 'n' : *name == '\r' ? 'r' : *name, out);
+    }
     fputc('\n', out);
 }
 

@@ -18,11 +18,15 @@ typedef struct record {
     char *name; /* its own; NULL where none is kept */
     mode_t mode;
     bool failed; /* the last could not be written, and that was said */
+    bool placed; /* one was put there: which file that is */
+    dev_t device;
+    ino_t inode;
 } record;
 
 /* Puts a text there, by way of NAME.part. The first takes the place of nothing;
  * one of --resume takes that of the earlier run's, and of a draft of it that was
- * left over. 0, or an exit status with the reason said, once until it succeeds
+ * left over; each later one that of the last, and of no file that was put in its
+ * place since. 0, or an exit status with the reason said, once until it succeeds
  * again; then the last one stays. A text of NULL is one that found no memory. */
 int record_first(record *r, const char *text);
 int record_again(record *r, const char *text);
@@ -43,8 +47,14 @@ void record_lines(FILE *out, const char *heading, const char *text);
 /* What a writer writes in sentences, each line behind "known: ". */
 void record_known(FILE *out, record_writer write, const void *what);
 
+/* A date behind a heading, without the line's end. */
+void record_date(FILE *out, const char *heading, time_t when);
+
 /* When it was written, when the session began (0: not yet), the program's version, and the line. */
 void record_head(FILE *out, time_t begun, const line *l);
+
+/* For the line of the settings: which frames are lost and doubled on purpose, if any. */
+void record_rehearsed(FILE *out, const line_settings *settings);
 
 /* The last line, which shows that the record is not cut short. */
 #define RECORD_END "end of the record\n"

@@ -104,6 +104,12 @@ static void take_sum(span s, recorded_file *file)
     file->sum[DIGITS] = '\0';
 }
 
+/* What stands for a letter behind a backslash; 0 if nothing does. */
+static char unescaped(uint8_t letter)
+{
+    return letter == 'n' ? '\n' : letter == 'r' ? '\r' : letter == '\\' ? '\\' : '\0';
+}
+
 /* A name, which may be escaped as sha256sum does it. */
 static bool take_name(span s, bool escaped, char name[RECORDED_NAME])
 {
@@ -111,9 +117,9 @@ static bool take_name(span s, bool escaped, char name[RECORDED_NAME])
     for (size_t i = 0; i < s.length; i++) {
         const bool mark = escaped && s.at[i] == '\\';
         i += mark;
-        if (length == RECORDED_NAME - 1 || i == s.length || (mark && s.at[i] != '\\' && s.at[i] != 'n'))
+        if (length == RECORDED_NAME - 1 || i == s.length || (mark && unescaped(s.at[i]) == '\0'))
             return false;
-        name[length++] = (char)(mark && s.at[i] == 'n' ? '\n' : s.at[i]);
+        name[length++] = mark ? unescaped(s.at[i]) : (char)s.at[i];
     }
     name[length] = '\0';
     return length > 0;

@@ -53,8 +53,10 @@ static void write_head(const dumping *d, FILE *out)
     record_head(out, d->since, &d->host->line);
     write_machine(d, out);
     report_range(d, out);
-    fprintf(out, "\nsettings: C %" PRIu32 ", R %" PRIu32 ", timer %" PRIu32 " ms\n", d->settings.request_bytes,
+    fprintf(out, "\nsettings: C %" PRIu32 ", R %" PRIu32 ", timer %" PRIu32 " ms", d->settings.request_bytes,
         d->settings.repeats, d->host->settings.timer);
+    record_rehearsed(out, &d->host->settings.line);
+    fputs("\n", out);
     if (d->resume)
         fprintf(out,
             "resumed: at byte %" PRIu64 "; the bytes before are of an earlier run, and the memory may have changed "
@@ -98,6 +100,19 @@ static void write_part(const copy *c, const char *which, FILE *out)
 uint64_t dumping_offers(const dumping *d)
 {
     return d->copies[0].offers + d->copies[1].offers;
+}
+
+/* Whether no other program spoke to the machine, and it was not heard to be restarted. */
+static bool is_alone(const dumping *d, int status)
+{
+    return status != STATUS_SHARED && dumping_offers(d) == 0;
+}
+
+void dumping_words(const dumping *d, int status, FILE *out)
+{
+    if (d->now == &d->copies[1])
+        fputs("Second dump: ", out);
+    dump_words(out, &d->now->session, &d->settings, is_alone(d, status));
 }
 
 /* Two that were compared need no word on offers. */
@@ -149,7 +164,8 @@ static void write_later(const dumping *d, FILE *out)
     record_name(out, record_base(first->name));
     fputs(" and ", out);
     record_name(out, record_base(d->path));
-    fputs(" is there, that is whole. The machine's memory is as it was.\n", out);
+    fputs(" is there, that is whole.", out);
+    fputs(is_alone(d, 0) ? " The machine's memory is as it was.\n" : "\n", out);
 }
 
 static void write_known(const void *what, FILE *out)
@@ -158,20 +174,41 @@ static void write_known(const void *what, FILE *out)
     if (t->how == NULL)
         write_later(t->d, out);
     else if (t->d->settings.length != 0)
-        dump_words(out, &t->d->now->session, &t->d->settings);
+        dumping_words(t->d, t->status, out);
     else
         fputs("All bytes are of earlier runs: the machine was not asked again.\n", out);
     dumping_doubts(t->d, t->status, out);
 }
 
+/* The second file is kept where the first does not get its name. */
 static void write_end(const told *t, FILE *out)
 {
     const dumping *d = t->d;
+    const copy *second = &d->copies[1];
     if (d->compared[0] != '\0')
         fprintf(out, "twice: %s\n", d->compared);
     write_file(d, &d->copies[0], "", t->file, out);
-    if (d->now == &d->copies[1] && t->status != 0)
-        write_file(d, d->now, "second ", d->now->part.name, out);
+    if (t->file != d->path && second->session.filled > 0)
+        write_file(d, second, "second ", second->part.name, out);
+}
+
+/* Of the runs before the earlier one, those that this is before the lines of are not kept. */
+#define OLDEST "> > > "
+
+static void write_earlier(const dumping *d, FILE *out)
+{
+    size_t left_out = 0;
+    fputs("The record of the earlier run:\n", out);
+    for (const char *line = d->earlier; *line != '\0';) {
+        const size_t length = strcspn(line, "\n");
+        if (strncmp(line, OLDEST, sizeof OLDEST - 1) == 0)
+            left_out += 1;
+        else
+            fprintf(out, "> %.*s\n", (int)length, line);
+        line += length + (line[length] == '\n');
+    }
+    if (left_out > 0)
+        fprintf(out, "Left out of it, of still earlier runs: %zu lines.\n", left_out);
 }
 
 static void write_record(const void *what, FILE *out)
@@ -195,10 +232,8 @@ static void write_record(const void *what, FILE *out)
     if (t->how == NULL && d->twice)
         write_part(&d->copies[1], "second ", out);
     record_known(out, write_known, what);
-    if (d->earlier != NULL) {
-        fputs("The record of the earlier run:\n", out);
-        record_lines(out, "> ", d->earlier);
-    }
+    if (d->earlier != NULL)
+        write_earlier(d, out);
     fputs(RECORD_END, out);
 }
 

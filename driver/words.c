@@ -386,6 +386,33 @@ static void load_unconfirmed_words(FILE *out, const mop_load_settings *s, uint64
         c, image->segments, image->transfer);
 }
 
+/* What the link's theorem says of a load that ended without the machine's last word: of a reset that the host has not
+ * heard of there is only a claim where it may begin again. */
+static void unheard_words(FILE *out, bool restart)
+{
+    fputs(restart
+              ? "If it was reset and this host did not hear of it, its memory is as the reset left it, and it was not "
+                "started.\n"
+              : "Of a machine that was reset in the meantime nothing is known.\n",
+        out);
+}
+
+void load_doubted_words(FILE *out, const mop_load *session, const mop_load_settings *settings, const mop_image *image)
+{
+    static const char *const heads[] = {
+        [MOP_LOAD_RUNNING] = "Broken off",
+        [MOP_LOAD_FINISHED] = "Finished",
+        [MOP_LOAD_REJECTED] = "Rejected",
+        [MOP_LOAD_GIVEN_UP] = "Given up",
+        [MOP_LOAD_UNCONFIRMED] = "Unconfirmed",
+    };
+    const uint64_t c = session->position, n = image->segments;
+    fprintf(out,
+        "%s, and what the machine's memory holds is not known. It confirmed %" PRIu64 " of %" PRIu64 " segments",
+        PICK(heads, session->verdict, "Broken off"), c < n ? c : n, n);
+    fputs(settings->with_parameters && c > n ? " and the parameters.\n" : ".\n", out);
+}
+
 void load_words(FILE *out, const mop_load *session, const mop_load_settings *settings, const mop_image *image)
 {
     switch (session->verdict) {
@@ -404,6 +431,8 @@ void load_words(FILE *out, const mop_load *session, const mop_load_settings *set
     default:
         load_open_words(out, session, settings, image);
     }
+    if (session->verdict != MOP_LOAD_FINISHED && session->verdict != MOP_LOAD_REJECTED && !session->waiting)
+        unheard_words(out, settings->restart);
 }
 
 /* ---- Loads that are not over ----------------------------------------- */
@@ -433,7 +462,7 @@ void load_later_words(FILE *out, const mop_load *session, const mop_load_setting
     if (settings->with_parameters)
         fprintf(out,
             "When the machine has all %" PRIu64 " segments and takes the parameters it is started at 0x%08" PRIX32
-            ", and not before.\n",
+            ", and not before. One of version 2.1 then lays the parameter block over the image (see --protocol).\n",
             image->segments, image->transfer);
     else
         fprintf(out,
@@ -443,25 +472,24 @@ void load_later_words(FILE *out, const mop_load *session, const mop_load_setting
 
 /* ---- Dumps ----------------------------------------------------------- */
 
-void dump_words(FILE *out, const mop_dump *session, const mop_dump_settings *settings)
+void dump_words(FILE *out, const mop_dump *session, const mop_dump_settings *settings, bool alone)
 {
     switch (session->verdict) {
     case MOP_DUMP_FINISHED:
         fprintf(out,
             "Finished: the machine sent all %" PRIu64 " bytes of its memory from 0x%08" PRIX32 " on; those beyond the "
-            "end of its memory are 0. Its memory is as it was.\n",
+            "end of its memory are 0.",
             settings->length, settings->address);
         break;
     case MOP_DUMP_GIVEN_UP:
-        fprintf(out,
-            "Given up: the machine sent %" PRIu64 " of %" PRIu64 " bytes and then fell silent. Its memory is as it "
-            "was.\n",
+        fprintf(out, "Given up: the machine sent %" PRIu64 " of %" PRIu64 " bytes and then fell silent.",
             session->filled, settings->length);
         break;
     default:
-        fprintf(out, "%s: %" PRIu64 " of %" PRIu64 " bytes had come. The machine's memory is as it was.\n",
-            session->waiting ? "Not begun" : "Broken off", session->filled, settings->length);
+        fprintf(out, "%s: %" PRIu64 " of %" PRIu64 " bytes had come.", session->waiting ? "Not begun" : "Broken off",
+            session->filled, settings->length);
     }
+    fputs(alone ? " The machine's memory is as it was.\n" : "\n", out);
 }
 
 /* ---- Counts ---------------------------------------------------------- */

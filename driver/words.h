@@ -63,9 +63,10 @@ const char *state_words(uint8_t state);
 const char *verdict_words(uint8_t verdict);
 int verdict_status(uint8_t verdict);
 
-/* What a verdict means for the machine's memory, in whole sentences. */
+/* What a verdict means for the machine's memory, in whole sentences: no more than the link's theorem says. A dump has
+ * left it as it was if the host was alone with the machine, and that was not restarted. */
 void load_words(FILE *out, const mop_load *session, const mop_load_settings *settings, const mop_image *image);
-void dump_words(FILE *out, const mop_dump *session, const mop_dump_settings *settings);
+void dump_words(FILE *out, const mop_dump *session, const mop_dump_settings *settings, bool alone);
 
 /* How a session ended, in a few words: the verdict, or what came before it, by the exit status. */
 const char *ending_words(int status, uint8_t verdict);
@@ -75,7 +76,9 @@ const char *ending_words(int status, uint8_t verdict);
 void load_state_words(FILE *out, const mop_load *session, const mop_image *image, bool reset);
 void load_later_words(FILE *out, const mop_load *session, const mop_load_settings *settings, const mop_image *image);
 
-/* What casts doubt on a verdict, or takes its place. */
+/* What casts doubt on a verdict, or takes its place; of a machine that was reset in the middle of a load the verdict
+ * says only what it confirmed. */
+void load_doubted_words(FILE *out, const mop_load *session, const mop_load_settings *settings, const mop_image *image);
 void load_shared_words(FILE *out);
 void load_reset_words(FILE *out, uint64_t resets, bool perhaps_started, bool restart);
 void load_restarts_words(FILE *out, uint32_t restarts);

@@ -9,7 +9,7 @@
 #include "fuzz.h"
 #include "recorded.h"
 
-#define LETTERS "0123456789abcdef \\\n,:/\"-TZfileknown"
+#define LETTERS "0123456789abcdef \\\n\r,:/\"-TZfileknown"
 
 /* ---- Texts ----------------------------------------------------------- */
 
@@ -230,13 +230,15 @@ static bool slow_unescape(const char *text, char name[RECORDED_NAME])
 {
     size_t length = 0;
     for (; *text != '\0'; text++, length++) {
-        if (length + 1 == RECORDED_NAME || (*text == '\\' && text[1] != '\\' && text[1] != 'n'))
+        if (length + 1 == RECORDED_NAME || (*text == '\\' && (text[1] == '\0' || strchr("\\nr", text[1]) == NULL)))
             return false;
         const bool mark = *text == '\\';
         text += mark;
         name[length] = *text;
         if (mark && *text == 'n')
             name[length] = '\n';
+        if (mark && *text == 'r')
+            name[length] = '\r';
     }
     name[length] = '\0';
     return length > 0;
