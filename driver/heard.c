@@ -87,8 +87,11 @@ static const char *console_words(uint8_t code)
 
 static const char *to_words(const heard *h, char text[ADDRESS_TEXT])
 {
+    static const uint8_t everybody[ADDRESS_LENGTH] = {0xFF, 0xFF, 0xFF, 0xFF, 0xFF, 0xFF};
     if (memcmp(h->to, ASSISTANCE, ADDRESS_LENGTH) == 0)
         return "all hosts";
+    if (memcmp(h->to, everybody, ADDRESS_LENGTH) == 0)
+        return "everybody";
     return memcmp(h->to, CONSOLES, ADDRESS_LENGTH) == 0 ? "all consoles" : address_text(h->to, text);
 }
 
@@ -105,7 +108,8 @@ static void request_words(FILE *out, const heard *h, const char *to)
     software_words(out, f->form, h->message + f->id_at, f->id_length);
     fputs(", device ", out);
     device_words(out, f->device);
-    fprintf(out, ", processor %d (%s)", f->processor, processor_words(f->processor));
+    fputs(", processor ", out);
+    processor_words(out, f->processor);
     format_words(out, f->format);
     info_words(out, ", ", h->message + f->data_at, f->data_length);
 }
@@ -128,8 +132,32 @@ static void system_id_words(FILE *out, const heard *h, const char *to)
     info_words(out, ": ", h->message + SYSTEM_ID_LEAST, h->length - SYSTEM_ID_LEAST);
 }
 
+/* Whether it is a message of the protocol that is refused as a whole, such as the short form of a request. */
+static bool is_refused(const heard *h)
+{
+    return h->type == TYPE_LOAD && h->length > 0 && h->length == h->says && h->says <= MOP_FRAME_MOST &&
+           h->refusal != MOP_REFUSED_CODE;
+}
+
+static void refused_words(FILE *out, const heard *h, const char *to)
+{
+    const uint8_t code = h->message[0];
+    const char *name = code_words(code);
+    fprintf(out, "sends %s %s %s that is not taken (refused %d: %s): ", to, name[0] == 'a' ? "an" : "a", name,
+        h->refusal, refusal_words(h->refusal));
+    bytes_words(out, h->message, h->length);
+    if (h->length > 1 && (code == MOP_CODE_REQUEST_PROGRAM || code == MOP_CODE_REQUEST_DUMP_SERVICE)) {
+        fputs(", device ", out);
+        device_words(out, h->message[1]);
+    }
+}
+
 static void unreadable_words(FILE *out, const heard *h, const char *to)
 {
+    if (is_refused(h)) {
+        refused_words(out, h, to);
+        return;
+    }
     fprintf(out, "sends %s a frame of type %02X-%02X that is refused (%d): %s", to, h->type >> 8, h->type & 0xFF,
         h->refusal, refusal_words(h->refusal));
     if (h->says > h->length)

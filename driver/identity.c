@@ -39,11 +39,10 @@ void device_words(FILE *out, uint8_t device)
         fprintf(out, " (%s)", name);
 }
 
-const char *processor_words(uint8_t processor)
+void processor_words(FILE *out, uint8_t processor)
 {
-    return processor == 0   ? "the system processor"
-           : processor == 1 ? "the communication processor"
-                            : "a processor that document 001 does not list";
+    static const char *const names[] = {" (the system processor)", " (the communication processor)"};
+    fprintf(out, "%d%s", processor, processor < sizeof names / sizeof names[0] ? names[processor] : "");
 }
 
 void quoted_words(FILE *out, const uint8_t *bytes, size_t length)

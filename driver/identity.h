@@ -11,8 +11,8 @@
 /* A device, "5 (QNA)", or its number alone where document 001 (A.1) has none. */
 void device_words(FILE *out, uint8_t device);
 
-/* Which of the machine's processors is to be booted (001, 5.1.4). */
-const char *processor_words(uint8_t processor);
+/* Which of the machine's processors is to be booted (001, 5.1.4), or its number alone. */
+void processor_words(FILE *out, uint8_t processor);
 
 /* The software that is asked for: MOP_FORM_.., or an id of so many bytes. */
 void software_words(FILE *out, uint8_t form, const uint8_t *id, size_t id_length);

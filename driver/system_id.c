@@ -89,7 +89,9 @@ static void device(FILE *out, const entry *e)
 
 static void software(FILE *out, const entry *e)
 {
-    software_words(out, e->value[0], e->value + 1, e->length - 1);
+    const uint8_t form = e->value[0];
+    fputs(form == MOP_FORM_STANDARD || form == MOP_FORM_MAINTENANCE ? "software: " : "", out);
+    software_words(out, form, e->value + 1, e->length - 1);
 }
 
 /* Document 001, A.3. */
@@ -127,7 +129,7 @@ static const struct known {
     {8, TIME_BYTES, "system time ", system_time},
     {100, 1, "device ", device},
     {200, 0, "", software},
-    {300, 1, "processor ", processor},
+    {300, 1, "system processor type ", processor},
     {400, 1, "data link ", data_link},
     {401, 2, "buffer size ", number},
 };
@@ -201,6 +203,7 @@ void info_words(FILE *out, const char *first, const uint8_t *info, size_t length
     }
     if (at == length)
         return;
-    fprintf(out, "%s%zu byte%s that are no entry: ", at == 0 ? first : ", ", length - at, length - at == 1 ? "" : "s");
+    fprintf(out, "%s%zu %s no entry: ", at == 0 ? first : ", ", length - at,
+        length - at == 1 ? "byte that is" : "bytes that are");
     bytes_words(out, info + at, length - at);
 }

@@ -74,9 +74,10 @@ static void put_message(bool console)
 
 static void make_frame(void)
 {
-    static const uint8_t groups[][ADDRESS_LENGTH] = {{0xAB, 0, 0, 1, 0, 0}, {0xAB, 0, 0, 2, 0, 0}};
+    static const uint8_t groups[][ADDRESS_LENGTH] = {
+        {0xAB, 0, 0, 1, 0, 0}, {0xAB, 0, 0, 2, 0, 0}, {0xFF, 0xFF, 0xFF, 0xFF, 0xFF, 0xFF}};
     const bool console = one_in(2);
-    put_bytes(one_in(3) ? OWN : groups[below(2)], ADDRESS_LENGTH);
+    put_bytes(one_in(3) ? OWN : groups[below(3)], ADDRESS_LENGTH);
     put_bytes(PEER, ADDRESS_LENGTH);
     put_byte(0x60);
     put_byte((uint8_t)(one_in(20) ? below(4) : 1U + console));
@@ -116,7 +117,7 @@ static void say_bytes(const uint8_t *b, size_t n)
         say(" and %zu more", n - 17);
 }
 
-/* What a function of the driver prints, which has a check of its own. */
+/* What a function of the driver prints: here the names are not checked, tests/driver/watch compares them. */
 static void say_device(uint8_t device)
 {
     char words[80];
@@ -192,10 +193,11 @@ static bool say_known(unsigned type, size_t n, const uint8_t *b)
         say("console %s size %u", type == 5 ? "command" : "response", number);
     else if (type == 8 && n == 10 && good_time(b))
         say_time(b);
-    else if (type == 200 && n >= 1 && n == 1U + (b[0] >= 254 ? 0 : b[0]) && (b[0] <= 16 || b[0] >= 254))
+    else if (type == 200 && n >= 1 && n == 1U + (b[0] >= 254 ? 0 : b[0]) && (b[0] <= 16 || b[0] >= 254)) {
+        say(b[0] >= 254 ? "software: " : "");
         say_software(b);
-    else if ((type == 300 || type == 400) && n == 1)
-        say("%s %d%s", type == 300 ? "processor" : "data link", b[0],
+    } else if ((type == 300 || type == 400) && n == 1)
+        say("%s %d%s", type == 300 ? "system processor type" : "data link", b[0],
             b[0] > 3 ? "" : (type == 300 ? processors : links)[b[0]]);
     else if (type == 401 && n == 2)
         say("buffer size %u", number);
@@ -231,7 +233,7 @@ static void say_info(const char *before, const uint8_t *b, size_t n)
     }
     if (n == 0)
         return;
-    say("%s%zu %s that are no entry: ", before, n, n == 1 ? "byte" : "bytes");
+    say("%s%zu %s no entry: ", before, n, n == 1 ? "byte that is" : "bytes that are");
     say_bytes(b, n);
 }
 
@@ -277,10 +279,34 @@ static void say_load(const char *to, const uint8_t *m, size_t n)
     }
     say_device(m[1]);
     if (m[0] == 8)
-        say(", processor %d (%s)", m[5 + id], processor_words(m[5 + id]));
+        say(", processor %d%s", m[5 + id],
+            m[5 + id] == 0   ? " (the system processor)"
+            : m[5 + id] == 1 ? " (the communication processor)"
+                             : "");
     if (m[2] != 1)
         say(", format %d", m[2]);
     say_info(", ", m + (m[0] == 8 ? 6 + id : 8), n - (m[0] == 8 ? 6 + id : 8));
+}
+
+/* A message that is there and whose code is one of the protocol's has its name; all else is a frame. */
+static void say_refused(const char *to, bool console, const plain *p)
+{
+    const uint8_t *m = p->message;
+    const char *why = refusal_words(p->refusal);
+    const bool named = !console && p->length > 0 && p->says == p->length && p->says < 1501 && p->refusal != 3;
+    if (named)
+        say("sends %s %s %s that is not taken (refused %d: %s)", to, m[0] == 3 ? "an" : "a", code_words(m[0]),
+            p->refusal, why);
+    else
+        say("sends %s a frame of type 60-0%d that is refused (%d): %s", to, 1 + console, p->refusal, why);
+    if (p->says > p->length)
+        say(" (its length field says %zu, and %s%zu came)", p->says, p->says > 1500 ? "at least " : "", p->length);
+    say(p->length == 0 ? "" : ": ");
+    say_bytes(m, p->length);
+    if (named && (m[0] == 8 || m[0] == 12) && p->length >= 2) {
+        say(", device ");
+        say_device(m[1]);
+    }
 }
 
 /* The words, and the kind. */
@@ -288,12 +314,7 @@ static heard_kind say_all(const char *to, bool console, const plain *p)
 {
     const uint8_t *m = p->message;
     if (p->refusal != MOP_ACCEPTED) {
-        say("sends %s a frame of type 60-0%d that is refused (%d): %s", to, 1 + console, p->refusal,
-            refusal_words(p->refusal));
-        if (p->says > p->length)
-            say(" (its length field says %zu, and %s%zu came)", p->says, p->says > 1500 ? "at least " : "", p->length);
-        say(p->length == 0 ? "" : ": ");
-        say_bytes(m, p->length);
+        say_refused(to, console, p);
         return HEARD_UNREADABLE;
     }
     if (console && m[0] == 7) {
@@ -329,6 +350,7 @@ static void check_words(const heard *h, const contents *raw)
     written = 0;
     const heard_kind kind = say_all(strcmp(to, "AB-00-00-01-00-00") == 0   ? "all hosts"
                                     : strcmp(to, "AB-00-00-02-00-00") == 0 ? "all consoles"
+                                    : strcmp(to, "FF-FF-FF-FF-FF-FF") == 0 ? "everybody"
                                                                            : to,
         b[13] == 2, &p);
     require(h->kind == kind && h->refusal == p.refusal, "the kind is that of the bytes");
