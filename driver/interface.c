@@ -95,17 +95,19 @@ static size_t ask(int index, uint8_t answer[ANSWER_MOST])
     return got < 0 ? 0 : (size_t)got;
 }
 
-void interface_warn(const char *name, int index)
+void interface_warn(const char *name, int index, bool waits)
 {
     uint8_t answer[ANSWER_MOST];
     char master[IF_NAMESIZE];
     interface_facts facts = interface_read(answer, ask(index, answer), index);
     if (facts.kind != NULL && if_indextoname(facts.master, master) != NULL)
-        complain(0, "%s is a port of the %s %s: only a machine behind this port is heard; for any other give -i %s",
+        complain(0,
+            "%s is a port of the %s %s: only a machine behind this port is reached from here, and what others send is "
+            "heard in part or not at all; for any other give -i %s",
             name, facts.kind, master, master);
     if (facts.no_carrier)
-        complain(0,
-            "%s has no carrier: look at the cable, and whether what is at its other end is switched on; this program "
-            "waits on, for on a direct cable the carrier comes with the machine",
-            name);
+        complain(0, "%s has no carrier: look at the cable, and whether what is at its other end is switched on; %s",
+            name,
+            waits ? "this program waits on, for on a direct cable the carrier comes with the machine"
+                  : "no answer can come before there is one: then start this program again");
 }

@@ -1,4 +1,4 @@
-/* interface.h: what of an interface keeps frames from a program that waits on
+/* interface.h: what of an interface keeps frames from a program that listens on
  * it, as far as the kernel tells it. */
 #ifndef INTERFACE_H
 #define INTERFACE_H
@@ -17,7 +17,7 @@ typedef struct interface_facts {
  * is cut short or is something else, nothing is known. */
 interface_facts interface_read(const uint8_t *answer, size_t length, int index);
 
-/* Says it on standard error, or nothing. */
-void interface_warn(const char *name, int index);
+/* Says it on standard error, or nothing. A program waits, or ends without an answer. */
+void interface_warn(const char *name, int index, bool waits);
 
 #endif

@@ -23,6 +23,7 @@
 
 #define TYPE 0x6001
 #define SHORTEST 60
+#define VLAN_NUMBER 0xFFF /* of a tag; above it stands a priority */
 
 const uint8_t ASSISTANCE[ADDRESS_LENGTH] = {0xAB, 0x00, 0x00, 0x01, 0x00, 0x00};
 
@@ -154,7 +155,7 @@ int line_open(line *l, const line_settings *settings)
     if (status == 0)
         status = trace_open(&l->trace, settings->trace);
     if (status == 0)
-        interface_warn(l->name, l->index);
+        interface_warn(l->name, l->index, !settings->at_once);
     else
         line_close(l);
     return status;
@@ -264,19 +265,20 @@ static bool cut(const line *l, const uint8_t *raw, size_t length, line_frame *fr
     return true;
 }
 
-/* Whether the frame carried a VLAN tag, which the kernel has cut out: then it
- * is not from this line, although its addresses may be; and the length that the frame
- * had. */
-static bool tagged(struct msghdr *message, size_t *whole)
+/* What is said beside the frame: the length that it had, and whether it carried a VLAN tag, which the kernel has cut
+ * out. Then it is not from this line, although its addresses may be. */
+static void beside_frame(struct msghdr *message, line_raw *raw)
 {
     struct tpacket_auxdata word;
+    raw->tagged = true; /* if nothing is said */
+    raw->vlan = 0;
     for (struct cmsghdr *c = CMSG_FIRSTHDR(message); c != NULL; c = CMSG_NXTHDR(message, c))
         if (c->cmsg_level == SOL_PACKET && c->cmsg_type == PACKET_AUXDATA) {
             memcpy(&word, CMSG_DATA(c), sizeof word);
-            *whole = word.tp_len;
-            return (word.tp_status & TP_STATUS_VLAN_VALID) != 0;
+            raw->whole = word.tp_len;
+            raw->tagged = (word.tp_status & TP_STATUS_VLAN_VALID) != 0;
+            raw->vlan = word.tp_vlan_tci & VLAN_NUMBER;
         }
-    return true; /* nothing is said of it */
 }
 
 /* What one frame from the socket is: LINE_FRAME for a message for this end,
@@ -314,7 +316,7 @@ line_event line_take(const line *l, line_raw *raw)
     }
     raw->length = raw->whole = (size_t)got;
     raw->type = from.sll_pkttype;
-    raw->tagged = tagged(&message, &raw->whole);
+    beside_frame(&message, raw);
     return LINE_FRAME;
 }
 

@@ -62,6 +62,7 @@ typedef struct line_settings {
     const char *trace;
     uint32_t drop;
     uint32_t twice;
+    bool at_once; /* the program sends at once, and does not wait for the other end */
 } line_settings;
 
 typedef enum line_event { LINE_FRAME, LINE_QUIET, LINE_SIGNAL, LINE_SHARED, LINE_BROKEN } line_event;
@@ -90,9 +91,10 @@ void line_empty(line *l);
 typedef struct line_raw {
     uint8_t bytes[LINE_LONGEST + 1];
     size_t length;
-    size_t whole; /* the length that it had, if it was longer */
-    uint8_t type; /* PACKET_.. of the kernel */
-    bool tagged;  /* it carried a VLAN tag, which the kernel has cut out */
+    size_t whole;  /* the length that it had, if it was longer */
+    uint8_t type;  /* PACKET_.. of the kernel */
+    bool tagged;   /* it carried a VLAN tag, which the kernel has cut out */
+    unsigned vlan; /* the number in that tag; 0 names no VLAN */
 } line_raw;
 
 /* For a program that only listens: waits until there is something to take, and

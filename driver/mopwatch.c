@@ -13,6 +13,7 @@
 
 #define SENDERS_MOST 64
 #define WAIT_MOST 3600000 /* milliseconds of one wait */
+#define REST_MOST 10000   /* frames that are taken at the end */
 
 enum { OPTION_COUNT = OPTION_MORE, OPTION_SECONDS, OPTION_ALL, OPTION_MACHINE, OPTION_PROMISCUOUS };
 
@@ -21,6 +22,13 @@ typedef struct sender {
     uint64_t frames[HEARD_KINDS];
 } sender;
 
+/* Frames with a VLAN tag, and the last of them. */
+typedef struct tagged {
+    uint64_t frames;
+    unsigned vlan;
+    uint8_t from[ADDRESS_LENGTH];
+} tagged;
+
 typedef struct watch {
     const char *interface;
     uint32_t count;   /* lines, 0 for any number */
@@ -28,13 +36,14 @@ typedef struct watch {
     bool all;
     bool promiscuous;
     bool named;
-    uint8_t machine[ADDRESS_LENGTH]; /* the only sender, if named */
+    uint8_t machine[ADDRESS_LENGTH]; /* the only sender or receiver, if named */
     sender senders[SENDERS_MOST];
     size_t known;    /* senders in the table */
     sender others;   /* the frames of all that it has no room for */
     uint64_t listed; /* lines */
-    uint64_t passed; /* frames of other senders than the machine */
-    uint64_t tagged; /* frames with a VLAN tag */
+    uint64_t passed; /* frames neither from nor to the machine */
+    tagged vlans;    /* of other lines */
+    tagged zeros;    /* with the number 0, which names no VLAN */
     bool stopped;    /* by a signal */
     int64_t began;
     line line;
@@ -42,11 +51,16 @@ typedef struct watch {
 
 /* ---- Frames ---------------------------------------------------------- */
 
+static bool same(const uint8_t *one, const uint8_t *other)
+{
+    return memcmp(one, other, ADDRESS_LENGTH) == 0;
+}
+
 /* The sender's place in the table. */
 static sender *sender_of(watch *w, const uint8_t *address)
 {
     for (size_t i = 0; i < w->known; i++)
-        if (memcmp(w->senders[i].address, address, ADDRESS_LENGTH) == 0)
+        if (same(w->senders[i].address, address))
             return &w->senders[i];
     if (w->known == SENDERS_MOST)
         return &w->others;
@@ -62,15 +76,30 @@ static void put_time(struct timeval t)
     printf("%02d:%02d:%02d.%03d ", local.tm_hour, local.tm_min, local.tm_sec, (int)(t.tv_usec / 1000));
 }
 
-static int list(watch *w, const heard *h, bool sent_here)
+/* Of what goes out here, a bridge's port passes on what other machines sent. */
+static const char *mark(const watch *w, const heard *h, uint8_t type)
+{
+    if (type != PACKET_OUTGOING)
+        return "";
+    return same(h->from, w->line.address) ? "(from this computer) " : "(passed on by this computer) ";
+}
+
+static int list(watch *w, const heard *h, uint8_t type)
 {
     char from[ADDRESS_TEXT];
     put_time(watching_came(&w->line));
-    printf("%s %s", address_text(h->from, from), sent_here ? "(from this computer) " : "");
+    printf("%s %s", address_text(h->from, from), mark(w, h, type));
     heard_words(stdout, h);
     putchar('\n');
     w->listed += 1;
     return words_written();
+}
+
+static void count_tagged(tagged *t, unsigned vlan, const uint8_t *from)
+{
+    t->frames += 1;
+    t->vlan = vlan;
+    memcpy(t->from, from, ADDRESS_LENGTH);
 }
 
 static int hear(watch *w, const line_raw *raw)
@@ -79,21 +108,39 @@ static int hear(watch *w, const line_raw *raw)
     if (!heard_read(&h, raw->bytes, raw->length))
         return 0;
     if (raw->tagged) {
-        w->tagged += 1;
+        count_tagged(raw->vlan == 0 ? &w->zeros : &w->vlans, raw->vlan, h.from);
         return 0;
     }
-    if (w->named && memcmp(h.from, w->machine, ADDRESS_LENGTH) != 0) {
+    if (w->named && !same(h.from, w->machine) && !same(h.to, w->machine)) {
         w->passed += 1;
         return 0;
     }
     sender_of(w, h.from)->frames[h.kind] += 1;
-    return h.kind == HEARD_OTHER && !w->all ? 0 : list(w, &h, raw->type == PACKET_OUTGOING);
+    return h.kind == HEARD_OTHER && !w->all ? 0 : list(w, &h, raw->type);
+}
+
+static bool enough(const watch *w)
+{
+    return w->count > 0 && w->listed >= w->count;
 }
 
 static bool over(const watch *w)
 {
-    return w->stopped || (w->count > 0 && w->listed >= w->count) ||
-           (w->seconds > 0 && clock_now() >= w->began + (int64_t)w->seconds * 1000);
+    return w->stopped || enough(w) || (w->seconds > 0 && clock_now() >= w->began + (int64_t)w->seconds * 1000);
+}
+
+/* What has come before the end and was not taken. */
+static int hear_rest(watch *w)
+{
+    line_raw raw = {0};
+    int status = 0;
+    for (int n = 0; n < REST_MOST && status == 0 && !enough(w); n++) {
+        const line_event event = line_take(&w->line, &raw);
+        if (event != LINE_FRAME)
+            return event == LINE_BROKEN ? STATUS_INTERFACE : 0;
+        status = hear(w, &raw);
+    }
+    return status;
 }
 
 static int listen_on(watch *w)
@@ -111,7 +158,7 @@ static int listen_on(watch *w)
             status = STATUS_INTERFACE; /* line_take has said it */
         w->stopped = event == LINE_SIGNAL;
     }
-    return status;
+    return status == 0 ? hear_rest(w) : status;
 }
 
 /* ---- The summary ----------------------------------------------------- */
@@ -141,7 +188,7 @@ static void tell_senders(const watch *w)
     char from[ADDRESS_TEXT];
     for (size_t i = 0; i < w->known; i++) {
         const sender *s = &w->senders[i];
-        const bool own = memcmp(s->address, w->line.address, ADDRESS_LENGTH) == 0;
+        const bool own = same(s->address, w->line.address);
         printf("  %s%s", address_text(s->address, from), own ? " (this computer)" : "");
         tell_frames(s->frames);
     }
@@ -151,22 +198,45 @@ static void tell_senders(const watch *w)
     tell_frames(w->others.frames);
 }
 
+/* The usual name of the VLAN's interface, or a shorter one where that is too long. */
+static void name_vlan(const line *l, unsigned vlan, char name[2 * IFNAMSIZ])
+{
+    snprintf(name, 2 * IFNAMSIZ, "%s.%u", l->name, vlan);
+    if (strlen(name) >= IFNAMSIZ)
+        snprintf(name, 2 * IFNAMSIZ, "vlan%u", vlan);
+}
+
+static void tell_tagged(const watch *w)
+{
+    char from[ADDRESS_TEXT], name[2 * IFNAMSIZ];
+    const tagged *vlans = &w->vlans, *zeros = &w->zeros;
+    if (vlans->frames > 0) {
+        name_vlan(&w->line, vlans->vlan, name);
+        printf("Frames with a VLAN tag, which are not of this line: %" PRIu64
+               ". The last was from %s, of VLAN %u. If that is the machine, give -i %s, which"
+               " ip link add link %s name %s type vlan id %u makes.\n",
+            vlans->frames, address_text(vlans->from, from), vlans->vlan, name, w->line.name, name, vlans->vlan);
+    }
+    if (zeros->frames > 0)
+        printf("Frames with a VLAN tag of number 0, which is a priority and names no VLAN: %" PRIu64
+               ". The last was from %s. The programs do not take them: have the switch send them without a tag.\n",
+            zeros->frames, address_text(zeros->from, from));
+}
+
 /* What came, and what came and is not of it. */
 static int conclude(const watch *w, int status)
 {
     const int64_t time = clock_now() - w->began;
     const uint64_t lost = watching_lost(&w->line);
+    const bool others = w->passed > 0 || w->vlans.frames > 0 || w->zeros.frames > 0;
     printf("Heard on %s in %" PRId64 ".%" PRId64 " seconds%s\n", w->line.name, time / 1000, time % 1000 / 100,
-        w->known > 0                       ? ", by sender:"
-        : w->passed == 0 && w->tagged == 0 ? ": nothing."
-                                           : ": nothing that is to be listed.");
+        w->known > 0 ? ", by sender:"
+        : others     ? ": nothing that is to be listed."
+                     : ": nothing.");
     tell_senders(w);
     if (w->passed > 0)
-        printf("Frames of other senders than --machine, not listed: %" PRIu64 ".\n", w->passed);
-    if (w->tagged > 0)
-        printf("Frames with a VLAN tag, which are not of this line: %" PRIu64
-               ". If the machine is on a VLAN, name that VLAN's interface (-i %s.5).\n",
-            w->tagged, w->line.name);
+        printf("Frames neither from nor to --machine, not listed: %" PRIu64 ".\n", w->passed);
+    tell_tagged(w);
     if (lost > 0)
         printf("Frames that came too fast and are lost, neither listed nor counted: %" PRIu64 ".\n", lost);
     if (status == 0)
@@ -196,8 +266,9 @@ static const char manual[] = "NAME\n"
                              "\n"
                              "  It runs until it is interrupted (control-C), and ends with how many frames of\n"
                              "  each kind came from each sender. It may run beside mopload and mopdump: it\n"
-                             "  sends nothing and needs no interface to itself. What programs on this\n"
-                             "  computer send is listed too, and marked.\n"
+                             "  sends nothing and needs no interface to itself. What this computer sends is\n"
+                             "  listed too, and marked: as from this computer if the sender's address is the\n"
+                             "  interface's, else as passed on by it, as a bridge does.\n"
                              "\n"
                              "  Frames with a VLAN tag are of another line: they are counted and not\n"
                              "  listed. Without --promiscuous the interface hands over what is sent to all\n"
@@ -209,8 +280,8 @@ static const char manual[] = "NAME\n"
                              "        The Ethernet interface, as ip link names it. It must be up, and\n"
                              "        the program run as root or with the capability CAP_NET_RAW.\n"
                              "  --machine ADDRESS\n"
-                             "        List this sender alone, for example 08-00-2B-AA-BB-CC; the frames of\n"
-                             "        others are only counted.\n"
+                             "        List what this machine sends and what is sent to it, for example\n"
+                             "        08-00-2B-AA-BB-CC; all other frames are only counted.\n"
                              "  --all\n"
                              "        List every frame of the two types, those of a running load too.\n"
                              "        Without it they are only counted.\n"
@@ -233,13 +304,18 @@ static const char advice[] = "WHAT TO LOOK AT\n"
                              "        network, and has it been told to boot? Some machines test themselves\n"
                              "        for minutes before they ask.\n"
                              "  A system id, but no request:\n"
-                             "        The machine and the line work. It is not asking for a program: boot\n"
-                             "        it from the network. (A boot ROM may send both, one after the other.)\n"
+                             "        The machine works, and the line from it to here; of the other direction\n"
+                             "        this shows nothing. It is not asking for a program: boot it from the\n"
+                             "        network. (A boot ROM may send both, one after the other.)\n"
                              "  It asks for type 1 (or 0), and mopload says that this is not served:\n"
                              "        Give mopload --accept-type 1 (or 0).\n"
                              "  It asks for a program, and mopload says nothing of it:\n"
                              "        The ADDRESS of mopload --machine is not the one that is listed here;\n"
-                             "        or mopload runs on another interface.\n"
+                             "        or mopload runs on another interface; or the request is to everybody\n"
+                             "        (FF-FF-FF-FF-FF-FF), which mopload does not hear.\n"
+                             "  A request that ends too early:\n"
+                             "        The short form of a request program, or that of version 2.1, which has\n"
+                             "        no processor. mopload does not serve them, and says nothing of them.\n"
                              "  It asks all hosts again and again, also after this computer's offer of\n"
                              "  assistance:\n"
                              "        It does not hear this computer: suspect the line in that direction.\n"
@@ -251,7 +327,8 @@ static const char advice[] = "WHAT TO LOOK AT\n"
                              "  Frames that cannot be read:\n"
                              "        The number and the words tell why. The programs pass them over.\n"
                              "  Frames with a VLAN tag:\n"
-                             "        Name the VLAN's interface: -i eth0.5.\n"
+                             "        Name the interface of that VLAN: the summary tells how. A tag of number\n"
+                             "        0 names no VLAN: the switch has to take it off.\n"
                              "\n";
 
 static void help(FILE *out)
@@ -277,6 +354,15 @@ static void help(FILE *out)
         out);
 }
 
+static int machine_option(watch *w)
+{
+    w->named = true;
+    int status = option_address("--machine", optarg, w->machine);
+    if (status == 0 && w->machine[0] % 2 == 1)
+        status = complain(STATUS_USAGE, "--machine: %s is the address of a group, and not of one machine", optarg);
+    return status;
+}
+
 static int option(int c, char **words, watch *w)
 {
     switch (c) {
@@ -291,8 +377,7 @@ static int option(int c, char **words, watch *w)
         w->all = true;
         return 0;
     case OPTION_MACHINE:
-        w->named = true;
-        return option_address("--machine", optarg, w->machine);
+        return machine_option(w);
     case OPTION_PROMISCUOUS:
         w->promiscuous = true;
         return 0;
@@ -312,7 +397,12 @@ static int options(int count, char **words, watch *w)
         if (status != 0)
             return status;
     }
-    return optind == count ? 0 : complain(STATUS_USAGE, "'%s' is too much (see --help)", words[optind]);
+    if (optind == count)
+        return 0;
+    if (w->interface == NULL)
+        return complain(
+            STATUS_USAGE, "'%s' is too much: to name an interface, give -i %s", words[optind], words[optind]);
+    return complain(STATUS_USAGE, "'%s' is too much (see --help)", words[optind]);
 }
 
 static int run(watch *w)
