@@ -99,8 +99,8 @@ static int silence(host *h)
         return step(h, NULL);
     return complain(STATUS_SILENT,
         "no machine asked within %" PRIu32 " seconds for what is served: is it on, on this line, and set to "
-        "boot from the network?",
-        h->settings.wait);
+        "boot from the network? To see what comes, run mopwatch -i %s",
+        h->settings.wait, h->line.name);
 }
 
 /* ---- The host as the line runs it ------------------------------------ */
