@@ -35,6 +35,7 @@ typedef struct looping {
     size_t timed;
     uint64_t sent;     /* frames; the first of each session is no repeat */
     uint64_t received; /* frames, from the machine alone; one for each session that came back */
+    uint64_t asked;    /* not among them: its requests and offers to all hosts */
     int64_t sent_at;   /* when the last frame was, in nanoseconds */
     int64_t due;       /* when the timer runs out, or the next session begins */
     line line;
@@ -58,7 +59,7 @@ static void put_milliseconds(int64_t time)
 /* ---- A session ------------------------------------------------------- */
 
 /* The session's verdict, and the time that it took. After a repeat it is not known which frame was answered. */
-static void tell_ended(const looping *l, int64_t time)
+static int tell_ended(const looping *l, int64_t time)
 {
     static const char *const words[VERDICTS] = {
         [MOP_LOOP_LOOPED] = "looped",
@@ -75,19 +76,20 @@ static void tell_ended(const looping *l, int64_t time)
         put_milliseconds(time);
     }
     puts(back && repeats > 0 ? " after the last of them, perhaps to an earlier frame" : "");
-    fflush(stdout);
+    return words_written();
 }
 
-static void count_ended(looping *l, int64_t time)
+static int count_ended(looping *l, int64_t time)
 {
     l->ended[l->session.verdict] += 1;
     if (l->session.verdict != MOP_LOOP_GIVEN_UP && l->session.repeats == 0)
         l->times[l->timed++] = time;
     l->due = clock_now() + l->interval;
-    tell_ended(l, time);
+    return tell_ended(l, time);
 }
 
-/* Takes over the record of a step and sends its frame. If one came, it was so many nanoseconds after the last was sent. */
+/* Takes over the record of a step and sends its frame. If one came, it was so many nanoseconds after the last was
+ * sent. */
 static int carry(looping *l, mop_loop_step step, const uint8_t *reply, int64_t elapsed)
 {
     if (mop_refused_frame(step.answer.refusal))
@@ -95,10 +97,9 @@ static int carry(looping *l, mop_loop_step step, const uint8_t *reply, int64_t e
     if (step.answer.refusal != MOP_ACCEPTED)
         return complain(STATUS_OTHER, "the step is refused: %s", refusal_words(step.answer.refusal));
     l->session = step.session;
-    if (l->session.verdict != MOP_LOOP_OPEN)
-        count_ended(l, elapsed);
-    if (step.answer.length == 0)
-        return 0;
+    const int status = l->session.verdict == MOP_LOOP_OPEN ? 0 : count_ended(l, elapsed);
+    if (status != 0 || step.answer.length == 0)
+        return status;
     l->sent += 1;
     l->due = clock_now() + l->common.timer;
     l->sent_at = nanoseconds();
@@ -137,16 +138,23 @@ static int64_t due(const void *end)
     return ((const looping *)end)->due;
 }
 
+/* Whether the machine asks all hosts, also by a form that is not served. */
+static bool asks(const line_frame *frame)
+{
+    return frame->multicast && frame->length > 0 &&
+           (frame->bytes[0] == MOP_CODE_REQUEST_PROGRAM || frame->bytes[0] == MOP_CODE_REQUEST_DUMP_SERVICE);
+}
+
 static int on_frame(void *end, line_frame *frame)
 {
     looping *l = end;
     const int64_t elapsed = nanoseconds() - l->sent_at;
     uint8_t reply[MOP_FRAME_MOST];
-    if (frame->multicast || memcmp(frame->from, l->machine, ADDRESS_LENGTH) != 0)
+    if (memcmp(frame->from, l->machine, ADDRESS_LENGTH) != 0)
         return 0;
-    l->received += 1;
-    if (l->session.verdict != MOP_LOOP_OPEN)
-        return 0; /* between two sessions */
+    *(asks(frame) ? &l->asked : &l->received) += 1;
+    if (frame->multicast || l->session.verdict != MOP_LOOP_OPEN)
+        return 0; /* no answer, or between two sessions */
     return carry(l,
         mop_loop_frame(l->settings, l->session, l->data, l->length, frame->bytes, frame->length, reply, sizeof reply),
         reply, elapsed);
@@ -186,6 +194,20 @@ static void tell_times(looping *l)
     puts(".");
 }
 
+/* Why nothing came back from the machine, as far as it is known. */
+static void tell_silence(const looping *l)
+{
+    const uint32_t *ended = l->ended;
+    if (ended[MOP_LOOP_PLUG] > 0 && ended[MOP_LOOP_LOOPED] == 0)
+        puts("All that came back was turned round by a plug: the machine itself was not reached.");
+    if (ended[MOP_LOOP_GIVEN_UP] > 0 && l->asked > 0)
+        printf("The machine is heard: requests for a program and offers of a dump to all hosts: %" PRIu64
+               ". It does not loop while it asks for a program or offers a dump.\n",
+            l->asked);
+    else if (ended[MOP_LOOP_GIVEN_UP] > 0 && l->received == 0)
+        puts("The machine sent nothing: it is off, not on this line, or does not loop as it is now (see --help).");
+}
+
 static int conclude(looping *l, int status)
 {
     const uint32_t *ended = l->ended;
@@ -198,8 +220,7 @@ static int conclude(looping *l, int status)
         l->sent, l->sent - l->begun, l->received - back);
     tell_times(l);
     line_tell(&l->line);
-    if (l->received == 0 && all > 0)
-        puts("The machine sent nothing: it is off, not on this line, or does not loop as it is now (see --help).");
+    tell_silence(l);
     if (status == 0)
         status = words_written();
     return status == 0 && ended[MOP_LOOP_GIVEN_UP] > 0 ? STATUS_GIVEN_UP : status;
@@ -234,8 +255,10 @@ static const char manual[] = "NAME\n"
                              "  --idle is such a machine, for rehearsals. DEC's version 3.0.0 keeps codes 24\n"
                              "  and 26 for lines between two machines, and has another test for Ethernet\n"
                              "  (type 90-00), which this is not: that is the one that the DEQNA's boot ROM\n"
-                             "  answers. So a silent machine is no proof of a bad line. mopwatch shows\n"
-                             "  whether the machine is heard at all.\n"
+                             "  answers. So a silent machine is no proof of a bad line. If it asked all\n"
+                             "  hosts for a program or offered them a dump, the summary tells so: then the\n"
+                             "  line from it to here works. mopwatch shows whether the machine is heard at\n"
+                             "  all.\n"
                              "\n"
                              "  A plug is seen only if the frame comes back from the machine's address to\n"
                              "  this computer: with the two addresses exchanged, as some test equipment does.\n"
@@ -266,7 +289,7 @@ static void help(FILE *out)
           "  once. A machine that does not answer costs R + 1 times --timer for each test.\n"
           "\n"
           "EXIT STATUS\n"
-          "   0  all data came back\n",
+          "   0  all data came back, from the machine or a plug: the summary tells which\n",
         out);
     words_statuses(out, STATUS_OTHER, STATUS_OTHER);
     fputs("   3  given up: data did not come back in one test at least\n", out);
@@ -325,10 +348,20 @@ static int options(int count, char **words, looping *l)
 
 /* ---- The run --------------------------------------------------------- */
 
+static int check_machine(const looping *l)
+{
+    if (memcmp(l->machine, l->line.address, ADDRESS_LENGTH) != 0)
+        return 0;
+    return complain(STATUS_USAGE, "--machine: this is the address of %s itself, and not of a machine", l->line.name);
+}
+
 static int check_room(const looping *l)
 {
     if (l->length + LOOP_REST <= l->line.longest)
         return 0;
+    if (l->line.longest < LOOP_REST)
+        return complain(STATUS_INTERFACE, "%s takes messages of at most %" PRIu32 " bytes: no loop frame fits",
+            l->line.name, l->line.longest);
     return complain(STATUS_INTERFACE, "%s takes messages of at most %" PRIu32 " bytes: --length is at most %" PRIu32,
         l->line.name, l->line.longest, l->line.longest - LOOP_REST);
 }
@@ -339,9 +372,10 @@ static int loop(looping *l)
     char own[ADDRESS_TEXT], other[ADDRESS_TEXT];
     printf("Looping %" PRIu32 " bytes from %s (%s) to %s and back.\n", l->length, l->line.name,
         address_text(l->line.address, own), address_text(l->machine, other));
-    fflush(stdout);
-    l->first = (uint16_t)nanoseconds(); /* no late answer of an earlier run fits */
-    int status = begin(l);
+    l->first = (uint16_t)nanoseconds(); /* hardly any late answer of an earlier run fits */
+    int status = words_written();
+    if (status == 0)
+        status = begin(l);
     return status == 0 ? line_run(&l->line, &calls, l) : status;
 }
 
@@ -351,9 +385,13 @@ static int run(looping *l)
     if (status != 0)
         return status;
     l->line.alone = true;
-    status = lock_take(l->line.index, l->line.name);
+    status = check_machine(l);
+    if (status == 0)
+        status = lock_take(l->line.index, l->line.name);
     if (status == 0)
         status = check_room(l);
+    if (status == 0)
+        status = line_join(&l->line); /* to hear whether the machine asks */
     if (status == 0)
         status = conclude(l, loop(l));
     line_close(&l->line);
@@ -362,7 +400,7 @@ static int run(looping *l)
 
 int main(int count, char **words)
 {
-    static looping l = {.common = {.timer = 500, .program = {.write = help}},
+    static looping l = {.common = {.line = {.at_once = true}, .timer = 500, .program = {.write = help}},
         .settings = {.repeats = 4, .version = MOP_VERSION_3_0},
         .length = 100,
         .count = 10,
