@@ -208,9 +208,10 @@ static void name_vlan(const line *l, unsigned vlan, char name[2 * IFNAMSIZ])
 
 static void tell_tagged(const watch *w)
 {
-    char from[ADDRESS_TEXT], name[2 * IFNAMSIZ];
+    char from[ADDRESS_TEXT];
     const tagged *vlans = &w->vlans, *zeros = &w->zeros;
     if (vlans->frames > 0) {
+        char name[2 * IFNAMSIZ];
         name_vlan(&w->line, vlans->vlan, name);
         printf("Frames with a VLAN tag, which are not of this line: %" PRIu64
                ". The last was from %s, of VLAN %u. If that is the machine, give -i %s, which"
@@ -259,10 +260,11 @@ static const char manual[] = "NAME\n"
                              "  The first program to run when a machine says nothing. It lists the requests\n"
                              "  for a program, the offers of a dump, the hosts' offers of assistance (type\n"
                              "  60-01, codes 8, 12 and 3), the system ids (type 60-02, code 7), and every\n"
-                             "  frame of MOP that cannot be read: one line each, with the local time at which\n"
-                             "  it came, the sender's address, and what it says in words. Devices, processors\n"
-                             "  and the rest have words where DEC's specification (version 3.0.0) lists\n"
-                             "  them, and their number alone where it does not.\n"
+                             "  frame of MOP that cannot be read, or that the programs here do not take: one\n"
+                             "  line each, with the local time at which it came, the sender's address, and\n"
+                             "  what it says in words. Devices, processors and the rest have words where\n"
+                             "  DEC's specification (version 3.0.0) lists them, and their number alone where\n"
+                             "  it does not.\n"
                              "\n"
                              "  It runs until it is interrupted (control-C), and ends with how many frames of\n"
                              "  each kind came from each sender. It may run beside mopload and mopdump: it\n"
@@ -272,8 +274,9 @@ static const char manual[] = "NAME\n"
                              "\n"
                              "  Frames with a VLAN tag are of another line: they are counted and not\n"
                              "  listed. Without --promiscuous the interface hands over what is sent to all\n"
-                             "  hosts, to all consoles, and to or from this computer: so a machine's request\n"
-                             "  to another host, once that has offered assistance, is not seen.\n"
+                             "  hosts, to all consoles, to everybody, and to or from this computer: so a\n"
+                             "  machine's request to another host, once that has offered assistance, is not\n"
+                             "  seen, nor is that offer.\n"
                              "\n"
                              "OPTIONS\n"
                              "  -i, --interface INTERFACE\n"
