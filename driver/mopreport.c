@@ -217,6 +217,7 @@ static void tell_record(listing *l, const entry *e)
     recorded_value(stdout, "  twice: ", r.twice);
     recorded_value(stdout, "  written: ", r.written);
     recorded_value(stdout, "  machine: ", r.machine);
+    recorded_value(stdout, "  settings: ", r.settings);
     recorded_value(stdout, "  version: ", r.version);
     for (size_t i = 0; i < r.count; i++)
         tell_file(l, &r, i, e->name);
@@ -310,36 +311,37 @@ static int tell(listing *l)
 
 /* ---- The command line ------------------------------------------------ */
 
-static const char manual[] = "NAME\n"
-                             "  mopreport - list the records of loads and dumps, and check their files\n"
-                             "\n"
-                             "SYNOPSIS\n"
-                             "  mopreport DIRECTORY\n"
-                             "\n"
-                             "DESCRIPTION\n"
-                             "  Reads the records that mopload --record and mopdump left in DIRECTORY and\n"
-                             "  prints a list of the loads and dumps in the order of their dates: how each\n"
-                             "  stands or ended, what is known of the machine's memory, the machine, and the\n"
-                             "  program's version. The image or the dump that a record tells of is read\n"
-                             "  again now, and its length and SHA-256 are compared with the record's. At the\n"
-                             "  end stand the files that no record tells of, and totals.\n"
-                             "\n"
-                             "  A record is known by how it begins, whatever its name; but the files that a\n"
-                             "  dump's record, NAME.record, is of are none, as their bytes are the machine's.\n"
-                             "  Records of older versions are read too. One that is cut short or altered\n"
-                             "  beyond reading is listed as damaged, with the reason. Nothing protects a\n"
-                             "  record from being altered on purpose: the SHA-256 shows that the file is the\n"
-                             "  one of the record, and not that the record is the one that was written.\n"
-                             "\n"
-                             "  A record of a load or dump that is not over, or whose program was killed,\n"
-                             "  says what was known when it was written. Such a dump has no SHA-256 yet: of\n"
-                             "  its file is asked only that it has as many bytes as the record says, or more,\n"
-                             "  and no more than the range.\n"
-                             "\n"
-                             "  Only regular files are read, and no subdirectories; symbolic links are named\n"
-                             "  and not followed. Nothing is changed.\n"
-                             "\n"
-                             "OPTIONS\n";
+static const char manual[] =
+    "NAME\n"
+    "  mopreport - list the records of loads and dumps, and check their files\n"
+    "\n"
+    "SYNOPSIS\n"
+    "  mopreport DIRECTORY\n"
+    "\n"
+    "DESCRIPTION\n"
+    "  Reads the records that mopload --record and mopdump left in DIRECTORY and\n"
+    "  prints a list of the loads and dumps in the order of their dates: how each\n"
+    "  stands or ended, what is known of the machine's memory, the machine, the\n"
+    "  settings, and the program's version. The image or the dump that a record tells of is read\n"
+    "  again now, and its length and SHA-256 are compared with the record's. At the\n"
+    "  end stand the files that no record tells of, and totals.\n"
+    "\n"
+    "  A record is known by how it begins, whatever its name; but the files that a\n"
+    "  dump's record, NAME.record, is of are none, as their bytes are the machine's.\n"
+    "  Records of older versions are read too. One that is cut short or altered\n"
+    "  beyond reading is listed as damaged, with the reason. Nothing protects a\n"
+    "  record from being altered on purpose: the SHA-256 shows that the file is the\n"
+    "  one of the record, and not that the record is the one that was written.\n"
+    "\n"
+    "  A record of a load or dump that is not over, or whose program was killed,\n"
+    "  says what was known when it was written. Such a dump has no SHA-256 yet: of\n"
+    "  its file is asked only that it has as many bytes as the record says, or more,\n"
+    "  and no more than the range.\n"
+    "\n"
+    "  Only regular files are read, and no subdirectories; symbolic links are named\n"
+    "  and not followed. Nothing is changed.\n"
+    "\n"
+    "OPTIONS\n";
 
 static void help(FILE *out)
 {

@@ -190,8 +190,8 @@ static bool take_value(reading *in, span line)
         const char *heading;
         span *value;
     } table[] = {{"date: ", &in->date}, {"written: ", &in->written}, {"begun: ", &in->begun},
-        {"machine: ", &in->r->machine}, {"version: ", &in->r->version}, {"resumed: ", &in->r->resumed},
-        {"twice: ", &in->r->twice}, {"range: ", &in->range}};
+        {"machine: ", &in->r->machine}, {"settings: ", &in->r->settings}, {"version: ", &in->r->version},
+        {"resumed: ", &in->r->resumed}, {"twice: ", &in->r->twice}, {"range: ", &in->range}};
     for (size_t i = 0; i < sizeof table / sizeof table[0]; i++)
         if (cut_front(&line, table[i].heading)) {
             if (table[i].value->at == NULL)

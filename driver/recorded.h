@@ -40,6 +40,7 @@ typedef struct recorded {
     span what;          /* how it stands or ended */
     span known;         /* the lines from the first known one on */
     span machine;
+    span settings;
     span version;
     span resumed;             /* at which byte; of a dump of more than one run */
     span twice;               /* what --twice found */
