@@ -3,7 +3,9 @@
 #include <errno.h>
 #include <fcntl.h>
 #include <inttypes.h>
+#include <stdio.h>
 #include <string.h>
+#include <strings.h>
 #include <sys/file.h>
 #include <sys/stat.h>
 #include <time.h>
@@ -32,7 +34,11 @@ typedef struct record_header {
 
 #define MAGIC 0xA1B2C3D4u /* times in microseconds */
 #define ETHERNET 1u
-#define FRAME_MOST 1517u /* the most that the line hands over of a frame */
+#define FRAME_LEAST 14u    /* an Ethernet header */
+#define FRAME_MOST 1517u   /* the most that the line hands over of a frame */
+#define KEPT_MOST 262144u  /* the most that any program keeps of one */
+#define SECOND 1000000u    /* in microseconds */
+#define PIPE_ROOM 0x100000 /* bytes: what every user may have */
 
 static const capture_header BEGINS = {.magic = MAGIC, .major = 2, .minor = 4, .longest = 65535, .link = ETHERNET};
 
@@ -51,28 +57,65 @@ static int not_read(const char *path)
     return complain(STATUS_FILE, "%s cannot be read: %s", path, strerror(errno));
 }
 
-static int cut_short(const char *path, uint64_t whole, uint64_t size)
-{
-    return complain(STATUS_FILE,
-        "%s is a capture that is cut short: its last whole record ends at byte %" PRIu64 " of %" PRIu64
-        ". Give another name, or cut the rest off first (truncate -s %" PRIu64 " FILE)",
-        path, whole, size, whole);
-}
-
 static bool read_at(int fd, uint64_t at, void *to, size_t length)
 {
     return pread(fd, to, length, (off_t)at) == (ssize_t)length;
 }
 
-/* Where the last whole record ends. */
-static uint64_t walk(int fd, uint64_t size, const capture_header *header)
+/* Whether a record can begin with so many bytes of its header; the others, which the file's end cuts off, are zero. */
+static bool begins_record(const record_header *record, size_t there, uint32_t longest)
 {
-    uint64_t at = sizeof *header;
-    record_header record;
-    while (size - at >= sizeof record && read_at(fd, at, &record, sizeof record) && record.kept <= header->longest &&
-           record.kept <= size - at - sizeof record)
+    if (record->microseconds >= SECOND || record->kept > longest)
+        return false;
+    if (there >= offsetof(record_header, whole) && record->kept < FRAME_LEAST)
+        return false;
+    return there < sizeof *record || record->kept <= record->whole;
+}
+
+/* Where the last whole record ends, and whether what follows there is the beginning of one. */
+static uint64_t walk(int fd, uint64_t size, uint32_t longest, bool *begins)
+{
+    uint64_t at = sizeof(capture_header);
+    for (;;) {
+        record_header record = {0};
+        const uint64_t left = size - at;
+        const size_t there = left < sizeof record ? (size_t)left : sizeof record;
+        *begins = read_at(fd, at, &record, there) && begins_record(&record, there, longest);
+        if (!*begins || left < sizeof record || record.kept > left - sizeof record)
+            return at;
         at += sizeof record + record.kept;
-    return at;
+    }
+}
+
+/* Whether there are zero bytes alone from a place to the end. */
+static bool all_zero(int fd, uint64_t at, uint64_t size)
+{
+    static const uint8_t zero[4096];
+    uint8_t bytes[sizeof zero];
+    bool so = true;
+    while (so && at < size) {
+        const size_t length = size - at < sizeof bytes ? (size_t)(size - at) : sizeof bytes;
+        so = read_at(fd, at, bytes, length) && memcmp(bytes, zero, length) == 0;
+        at += length;
+    }
+    return so;
+}
+
+/* Cutting the rest off is advised only where no record can be lost by it. */
+static int refuse_rest(const char *path, uint64_t at, uint64_t size, bool zeros, bool begins)
+{
+    if (zeros)
+        return complain(STATUS_FILE,
+            "%s is a capture that is damaged at byte %" PRIu64 " of %" PRIu64
+            ": zero bytes alone follow. Give another name, or cut them off first (truncate -s %" PRIu64 " FILE)",
+            path, at, size, at);
+    if (begins)
+        return complain(STATUS_FILE,
+            "%s is a capture that is cut short: its last whole record ends at byte %" PRIu64 " of %" PRIu64
+            ". Give another name, or cut the rest off first (truncate -s %" PRIu64 " FILE)",
+            path, at, size, at);
+    return complain(STATUS_FILE,
+        "%s is a capture that is damaged at byte %" PRIu64 " of %" PRIu64 ": give another name", path, at, size);
 }
 
 int capture_check(const char *path, int fd, uint64_t size)
@@ -91,10 +134,12 @@ int capture_check(const char *path, int fd, uint64_t size)
         return complain(STATUS_FILE,
             "%s is a capture that keeps %" PRIu32 " bytes of a frame at most, too few for a trace: give another name",
             path, header.longest);
-    uint64_t whole = walk(fd, size, &header);
+    bool begins = false;
+    const uint64_t at = walk(fd, size, header.longest < KEPT_MOST ? header.longest : KEPT_MOST, &begins);
+    const bool zeros = errno == 0 && all_zero(fd, at, size);
     if (errno != 0)
         return not_read(path);
-    return whole == size ? 0 : cut_short(path, whole, size);
+    return at == size ? 0 : refuse_rest(path, at, size, zeros, begins);
 }
 
 /* ---- Opening --------------------------------------------------------- */
@@ -104,29 +149,39 @@ static int not_written(const char *path, int error)
     return complain(STATUS_FILE, "%s cannot be written: %s", path, strerror(error));
 }
 
+static int not_opened(const char *path, const struct stat *there)
+{
+    if (errno == ENXIO && S_ISFIFO(there->st_mode))
+        return complain(STATUS_FILE, "%s is a pipe that no program reads: start its reader first", path);
+    return not_written(path, errno);
+}
+
 /* A trace has in it what a dump has. It replaces no file that holds anything; to
- * a terminal or a pipe it may go. A capture that is there is read too, to see
- * whether it is one. */
+ * a terminal or a pipe it may go, but never waits for one: the session would wait
+ * too. A capture that is there is read too, to see whether it is one. */
 static int open_file(const char *path, bool capture, int *fd)
 {
-    struct stat there;
-    *fd = open(path, (capture ? O_RDWR | O_APPEND : O_WRONLY) | O_CREAT | O_EXCL | O_CLOEXEC, 0600);
+    const int flags = O_NONBLOCK | O_CLOEXEC;
+    struct stat there = {0};
+    *fd = open(path, (capture ? O_RDWR | O_APPEND : O_WRONLY) | O_CREAT | O_EXCL | flags, 0600);
     if (*fd < 0 && errno == EEXIST) {
         if (stat(path, &there) != 0 || (!capture && S_ISREG(there.st_mode) && there.st_size > 0))
             return complain(STATUS_FILE, "%s is there already, and a trace replaces no file", path);
-        *fd = open(path, (capture && S_ISREG(there.st_mode) ? O_RDWR | O_APPEND : O_WRONLY) | O_CLOEXEC);
+        *fd = open(path, (capture && S_ISREG(there.st_mode) ? O_RDWR | O_APPEND : O_WRONLY) | flags);
     }
-    return *fd >= 0 ? 0 : not_written(path, errno);
+    if (*fd >= 0 && S_ISFIFO(there.st_mode)) /* its reader may pause for a moment; without the room it is as it was */
+        (void)fcntl(*fd, F_SETPIPE_SZ, PIPE_ROOM);
+    return *fd >= 0 ? 0 : not_opened(path, &there);
 }
 
-/* Writes at the capture's end, with one call unless that comes short. What there is
+/* Writes at the trace's end, with one call unless that comes short. What there is
  * then of bytes that do not fit is taken back, if it is still the end. */
-static bool append(trace *t, const uint8_t *bytes, size_t length)
+static bool append(trace *t, const void *bytes, size_t length)
 {
     struct stat now;
     size_t done = 0;
     ssize_t written = 0;
-    while (done < length && (written = write(t->fd, bytes + done, length - done)) > 0)
+    while (done < length && (written = write(t->fd, (const uint8_t *)bytes + done, length - done)) > 0)
         done += (size_t)written;
     if (done == length) {
         t->whole += length;
@@ -165,38 +220,35 @@ static int begin_capture(trace *t, const char *path)
     }
     if (t->whole > 0)
         return capture_check(path, t->fd, t->whole);
-    return append(t, (const uint8_t *)&BEGINS, sizeof BEGINS) ? 0 : not_written(path, t->error);
+    return append(t, &BEGINS, sizeof BEGINS) ? 0 : not_written(path, t->error);
 }
 
-static int open_capture(trace *t, const char *path)
+/* A name that looks like a capture's, and gives lines of text. */
+static void warn_name(const char *path, const char *ending)
 {
-    int status = open_file(path, true, &t->fd);
-    if (status != 0)
-        return status;
-    status = begin_capture(t, path);
-    t->capture = status == 0;
-    if (status != 0)
-        close(t->fd);
-    return status;
-}
-
-static int open_text(trace *t, const char *path)
-{
-    int fd = -1;
-    int status = open_file(path, false, &fd);
-    t->text = status != 0 ? NULL : fdopen(fd, "w");
-    return status != 0 || t->text != NULL ? status : not_written(path, errno);
+    if (strcasecmp(ending, ".pcap") == 0 || strcasecmp(ending, ".pcapng") == 0 || strcasecmp(ending, ".cap") == 0)
+        complain(0, "%s gets lines of hexadecimal: only a name that ends in .pcap makes a capture", path);
 }
 
 int trace_open(trace *t, const char *path)
 {
-    static const char ending[] = ".pcap";
     memset(t, 0, sizeof *t);
     if (path == NULL)
         return 0;
-    size_t length = strlen(path);
-    bool capture = length >= strlen(ending) && strcmp(path + length - strlen(ending), ending) == 0;
-    return capture ? open_capture(t, path) : open_text(t, path);
+    const char *ending = strrchr(path, '.');
+    const bool capture = ending != NULL && strcmp(ending, ".pcap") == 0;
+    int status = open_file(path, capture, &t->fd);
+    if (status != 0)
+        return status;
+    if (capture)
+        status = begin_capture(t, path);
+    else if (ending != NULL)
+        warn_name(path, ending);
+    if (status != 0)
+        close(t->fd);
+    else
+        t->kind = capture ? TRACE_CAPTURE : TRACE_TEXT;
+    return status;
 }
 
 /* ---- Writing --------------------------------------------------------- */
@@ -204,14 +256,17 @@ int trace_open(trace *t, const char *path)
 /* A line of capital hexadecimal, as the program frames reads it. */
 static void note_text(trace *t, const trace_frame *frame)
 {
-    for (size_t i = 0; i < frame->message_length; i++)
-        fprintf(t->text, "%02X", frame->message[i]);
-    if (fputc('\n', t->text) == EOF && t->error == 0)
-        t->error = errno;
+    static const char digits[] = "0123456789ABCDEF";
+    char line[2 * FRAME_MOST + 1];
+    const size_t length = frame->message_length < FRAME_MOST ? frame->message_length : FRAME_MOST;
+    for (size_t i = 0; i < length; i++) {
+        line[2 * i] = digits[frame->message[i] >> 4];
+        line[2 * i + 1] = digits[frame->message[i] & 0xF];
+    }
+    line[2 * length] = '\n';
+    append(t, line, 2 * length + 1);
 }
 
-/* A record in one piece: a program that is killed leaves whole records. After
- * one that could not be written none is, so that a capture has no gap. */
 static void note_capture(trace *t, const trace_frame *frame)
 {
     struct {
@@ -219,8 +274,6 @@ static void note_capture(trace *t, const trace_frame *frame)
         uint8_t bytes[FRAME_MOST];
     } record;
     struct timespec now;
-    if (t->error != 0)
-        return;
     clock_gettime(CLOCK_REALTIME, &now);
     size_t kept = frame->length < FRAME_MOST ? frame->length : FRAME_MOST;
     record.header = (record_header){.seconds = (uint32_t)now.tv_sec,
@@ -228,24 +281,27 @@ static void note_capture(trace *t, const trace_frame *frame)
         .kept = (uint32_t)kept,
         .whole = (uint32_t)frame->whole};
     memcpy(record.bytes, frame->bytes, kept);
-    append(t, (const uint8_t *)&record, sizeof record.header + kept);
+    append(t, &record, sizeof record.header + kept);
 }
 
+/* A record or a line in one piece: a program that is killed leaves whole ones. After
+ * one that could not be written none is, so that a trace has no gap. */
 void trace_note(trace *t, const trace_frame *frame)
 {
-    if (t->text != NULL)
+    if (t->error != 0)
+        return;
+    if (t->kind == TRACE_TEXT)
         note_text(t, frame);
-    if (t->capture)
+    if (t->kind == TRACE_CAPTURE)
         note_capture(t, frame);
 }
 
 void trace_close(trace *t)
 {
-    if (t->text != NULL && fclose(t->text) != 0)
+    if (t->kind != TRACE_NONE && close(t->fd) != 0 && t->error == 0)
         t->error = errno;
-    if (t->capture && close(t->fd) != 0)
-        t->error = errno;
-    if ((t->text != NULL || t->capture) && t->error != 0)
-        complain(STATUS_FILE, "the trace is not complete: %s", strerror(t->error));
+    if (t->kind != TRACE_NONE && t->error != 0)
+        complain(STATUS_FILE, "the trace is not complete: %s",
+            t->error == EAGAIN ? "what it is written to did not keep up" : strerror(t->error));
     memset(t, 0, sizeof *t);
 }

@@ -6,14 +6,14 @@
 #include <stdbool.h>
 #include <stddef.h>
 #include <stdint.h>
-#include <stdio.h>
+
+typedef enum trace_kind { TRACE_NONE, TRACE_TEXT, TRACE_CAPTURE } trace_kind;
 
 /* All zero: there is no trace. */
 typedef struct trace {
-    FILE *text;
-    bool capture;
-    int fd;         /* of the capture */
-    uint64_t whole; /* where its last whole record ends */
+    trace_kind kind;
+    int fd;
+    uint64_t whole; /* where its last whole record or line ends */
     int error;      /* of the first write that failed */
 } trace;
 
@@ -29,7 +29,8 @@ typedef struct trace_frame {
 /* Path NULL: no trace. 0, or an exit status with the reason said. */
 int trace_open(trace *t, const char *path);
 
-/* Writes a frame down, with the time of now in a capture. */
+/* Writes a frame down, with the time of now in a capture. It waits for no reader: a
+ * trace ends with the first frame that cannot be written at once. */
 void trace_note(trace *t, const trace_frame *frame);
 
 /* Says it if something could not be written. */
