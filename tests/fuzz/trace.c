@@ -147,7 +147,7 @@ static bool wrong_kind(void)
     static const size_t numbers[] = {0, 4, 16, 20};
     const size_t at = numbers[below(4)];
     if (at == 16)
-        set_number(at, below(1517));
+        set_number(at, one_in(2) ? 1516 : below(1516));
     else if (one_in(2))
         input.bytes[at + below(4)] ^= (uint8_t)(1U << below(8));
     else
