@@ -32,17 +32,28 @@ target/bin/%: $(SOURCES)
 
 lib: $(LIB)
 
-# The calls for C stand in three crates, so that each is proved in seconds; one archive has them all. When they were
-# proved, and by which kit, is kept for `make dist`.
+NEEDS_KIT = command -v rt >/dev/null || { echo "make: the Rattle kit (rt) is needed to prove and compile the library; a release (make dist) needs none" >&2; exit 1; }
+
+# The calls for C stand in three crates, so that each is proved in seconds; one archive has them all. Which kit compiled
+# them is kept for `make dist`.
 EXPORTS = mop_frames mop_steps mop_update
 
 $(LIB): $(SOURCES)
+	@$(NEEDS_KIT)
 	@mkdir -p target
 	@rt check $(EXPORTS) >target/lib.log 2>&1 || { cat target/lib.log; exit 1; }
-	@printf 'kit: %s\nchecked: %s\n' "$$(rt version)" "$$(date -u +%Y-%m-%dT%H:%M:%SZ)" >target/checked
 	@for crate in $(EXPORTS); do rt staticlib $$crate >target/lib.log 2>&1 || { cat target/lib.log; exit 1; }; done
+	@rt version >target/staticlib/kit
 	@(echo create $@; for crate in $(EXPORTS); do echo addlib target/staticlib/lib$$crate.a; done; echo save) | ar -M
-	@mv target/checked target/staticlib/checked
+
+# When all crates were last checked, those of theorems alone too, and by which kit: what a release tells.
+target/checked: $(SOURCES)
+	@$(NEEDS_KIT)
+	@mkdir -p target
+	@rm -f $@
+	@rt check >target/check.log 2>&1 || { cat target/check.log; exit 1; }
+	@printf 'kit: %s\nchecked: %s\n' "$$(rt version)" "$$(date -u +%Y-%m-%dT%H:%M:%SZ)" >$@.new
+	@mv -f $@.new $@
 
 $(OUT)/libmop_plain.rlib: $(wildcard tests/independent/*.rs)
 	@mkdir -p $(OUT)

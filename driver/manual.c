@@ -26,13 +26,13 @@ static void put_text(FILE *out, const char *text, size_t length)
             fputc(text[i], out);
 }
 
-/* A heading; an option, in bold; or text, which keeps its lines. */
+/* A heading; an option, in bold; or text, which keeps its lines and its margin, so that 80 columns do. */
 static void put_line(FILE *out, const char *line, size_t length)
 {
     const size_t margin = length < 2 ? length : 2;
     const bool option = length > 2 && line[2] == '-';
     if (length > 0 && line[0] != ' ') {
-        fprintf(out, ".fi\n.SH %.*s\n.nf\n", (int)length, line);
+        fprintf(out, ".fi\n.SH %.*s\n.in 2n\n.nf\n", (int)length, line);
         return;
     }
     fputs(option ? "\\fB" : "", out);

@@ -9,13 +9,16 @@ PREFIX    = /usr/local
 
 .PHONY: driver man install always
 
-driver: $(PROGRAMS:%=$(DRIVER)/%)
+# With the pages, so that `sudo make install` behind it makes nothing.
+driver: $(PROGRAMS:%=$(DRIVER)/%) man
 
-# The commit and its date, written anew only where they are others.
+# The commit and its date, written anew only where they are others. Here and below a file is replaced and not written
+# into: it may be root's, of an earlier `sudo make install`.
 target/version.inc: always
 	@mkdir -p target
+	@rm -f $@.new
 	@driver/version >$@.new
-	@if cmp -s $@.new $@; then rm $@.new; else mv $@.new $@; fi
+	@if cmp -s $@.new $@; then rm $@.new; else mv -f $@.new $@; fi
 
 $(DRIVER)/manual.o: target/version.inc
 
@@ -30,13 +33,15 @@ $(PROGRAMS:%=$(DRIVER)/%): %: %.o $(PARTS:%=$(DRIVER)/%.o) $(LIB)
 man: $(PROGRAMS:%=$(DRIVER)/%.1)
 
 $(DRIVER)/%.1: $(DRIVER)/%
-	@$< --man >$@
+	@rm -f $@.new
+	@$< --man >$@.new
+	@mv -f $@.new $@
 
 DOCUMENTS = README.md
 INTO      = $(DESTDIR)$(PREFIX)
 DOC       = $(INTO)/share/doc/kochipurn
 
-install: driver man $(LIB)
+install: driver $(LIB)
 	install -d "$(INTO)/bin" "$(INTO)/lib" "$(INTO)/include" "$(INTO)/share/man/man1" "$(DOC)/docs/pictures"
 	install -m 755 $(PROGRAMS:%=$(DRIVER)/%) "$(INTO)/bin"
 	install -m 644 $(LIB) "$(INTO)/lib"
