@@ -32,7 +32,8 @@ target/bin/%: $(SOURCES)
 
 lib: $(LIB)
 
-NEEDS_KIT = command -v rt >/dev/null || { echo "make: the Rattle kit (rt) is needed to prove and compile the library; a release (make dist) needs none" >&2; exit 1; }
+KIT_NEEDED = make: the Rattle kit (rt) is needed to prove and compile the library; a release (make dist) needs none
+NEEDS_KIT  = command -v rt >/dev/null || { echo "$(KIT_NEEDED)" >&2; exit 1; }
 
 # The calls for C stand in three crates, so that each is proved in seconds; one archive has them all. Which kit compiled
 # them is kept for `make dist`.

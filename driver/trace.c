@@ -159,19 +159,22 @@ static int not_opened(const char *path, const struct stat *there)
 /* A trace has in it what a dump has. It replaces no file that holds anything; to
  * a terminal or a pipe it may go, but never waits for one: the session would wait
  * too. A capture that is there is read too, to see whether it is one. */
-static int open_file(const char *path, bool capture, int *fd)
+static int open_file(trace *t, const char *path, bool capture)
 {
     const int flags = O_NONBLOCK | O_CLOEXEC;
     struct stat there = {0};
-    *fd = open(path, (capture ? O_RDWR | O_APPEND : O_WRONLY) | O_CREAT | O_EXCL | flags, 0600);
-    if (*fd < 0 && errno == EEXIST) {
+    t->fd = open(path, (capture ? O_RDWR | O_APPEND : O_WRONLY) | O_CREAT | O_EXCL | flags, 0600);
+    t->made = t->fd >= 0 ? path : NULL;
+    if (t->fd < 0 && errno == EEXIST) {
         if (stat(path, &there) != 0 || (!capture && S_ISREG(there.st_mode) && there.st_size > 0))
             return complain(STATUS_FILE, "%s is there already, and a trace replaces no file", path);
-        *fd = open(path, (capture && S_ISREG(there.st_mode) ? O_RDWR | O_APPEND : O_WRONLY) | flags);
+        t->fd = open(path, (capture && S_ISREG(there.st_mode) ? O_RDWR | O_APPEND : O_WRONLY) | flags);
     }
-    if (*fd >= 0 && S_ISFIFO(there.st_mode)) /* its reader may pause for a moment; without the room it is as it was */
-        (void)fcntl(*fd, F_SETPIPE_SZ, PIPE_ROOM);
-    return *fd >= 0 ? 0 : not_opened(path, &there);
+    if (t->fd < 0)
+        return not_opened(path, &there);
+    if (S_ISFIFO(there.st_mode)) /* its reader may pause for a moment; where there is no more room it stays as it is */
+        (void)fcntl(t->fd, F_SETPIPE_SZ, PIPE_ROOM);
+    return 0;
 }
 
 /* Writes at the trace's end, with one call unless that comes short. What there is
@@ -216,6 +219,8 @@ static int begin_capture(trace *t, const char *path)
             return status;
         if (fstat(t->fd, &there) != 0) /* the other program may have written until now */
             return not_written(path, errno);
+        if (there.st_nlink == 0)
+            return complain(STATUS_FILE, "%s was removed just now by the program that made it: start again", path);
         t->whole = (uint64_t)there.st_size;
     }
     if (t->whole > 0)
@@ -237,7 +242,7 @@ int trace_open(trace *t, const char *path)
         return 0;
     const char *ending = strrchr(path, '.');
     const bool capture = ending != NULL && strcmp(ending, ".pcap") == 0;
-    int status = open_file(path, capture, &t->fd);
+    int status = open_file(t, path, capture);
     if (status != 0)
         return status;
     if (capture)
@@ -296,8 +301,20 @@ void trace_note(trace *t, const trace_frame *frame)
         note_capture(t, frame);
 }
 
+/* A capture without a frame is not left behind, if it is new. */
+static void remove_empty(const trace *t)
+{
+    struct stat opened, named;
+    if (t->kind != TRACE_CAPTURE || t->made == NULL || t->whole != sizeof BEGINS)
+        return;
+    if (fstat(t->fd, &opened) == 0 && lstat(t->made, &named) == 0 && opened.st_dev == named.st_dev &&
+        opened.st_ino == named.st_ino && opened.st_size == sizeof BEGINS)
+        (void)unlink(t->made);
+}
+
 void trace_close(trace *t)
 {
+    remove_empty(t);
     if (t->kind != TRACE_NONE && close(t->fd) != 0 && t->error == 0)
         t->error = errno;
     if (t->kind != TRACE_NONE && t->error != 0)

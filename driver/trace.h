@@ -13,8 +13,9 @@ typedef enum trace_kind { TRACE_NONE, TRACE_TEXT, TRACE_CAPTURE } trace_kind;
 typedef struct trace {
     trace_kind kind;
     int fd;
-    uint64_t whole; /* where its last whole record or line ends */
-    int error;      /* of the first write that failed */
+    const char *made; /* its name if the file is new, else NULL */
+    uint64_t whole;   /* where its last whole record or line ends */
+    int error;        /* of the first write that failed */
 } trace;
 
 /* A frame as it was on the line, and the message in it. */
@@ -33,7 +34,7 @@ int trace_open(trace *t, const char *path);
  * trace ends with the first frame that cannot be written at once. */
 void trace_note(trace *t, const trace_frame *frame);
 
-/* Says it if something could not be written. */
+/* Says it if something could not be written. A new capture without a frame is removed. */
 void trace_close(trace *t);
 
 /* Whether a file of so many bytes is a capture to which frames can be appended:
