@@ -263,13 +263,13 @@ static void note_text(trace *t, const trace_frame *frame)
 {
     static const char digits[] = "0123456789ABCDEF";
     char line[2 * FRAME_MOST + 1];
-    const size_t length = frame->message_length < FRAME_MOST ? frame->message_length : FRAME_MOST;
-    for (size_t i = 0; i < length; i++) {
-        line[2 * i] = digits[frame->message[i] >> 4];
-        line[2 * i + 1] = digits[frame->message[i] & 0xF];
+    size_t length = 0;
+    for (size_t i = 0; i < frame->message_length && i < FRAME_MOST; i++) {
+        line[length++] = digits[frame->message[i] >> 4];
+        line[length++] = digits[frame->message[i] & 0xF];
     }
-    line[2 * length] = '\n';
-    append(t, line, 2 * length + 1);
+    line[length++] = '\n';
+    append(t, line, length);
 }
 
 static void note_capture(trace *t, const trace_frame *frame)

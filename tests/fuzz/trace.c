@@ -166,14 +166,13 @@ static bool is_header(size_t at)
            number_at(at + 12) >= kept;
 }
 
-/* Whether whole records alone stand from there on, up to a length. */
-static bool records_alone(size_t from, size_t length)
+/* Whether whole records alone stand behind the header, up to a length. */
+static bool records_alone(size_t length)
 {
-    if (from == length)
-        return true;
-    if (length - from < RECORD || number_at(from + 8) > length - from - RECORD)
-        return false;
-    return records_alone(from + RECORD + number_at(from + 8), length) && is_header(from);
+    uint64_t at = HEADER;
+    while (at + RECORD <= length && is_header((size_t)at))
+        at += RECORD + number_at((size_t)at + 8);
+    return at == length;
 }
 
 /* Whether what stands from there on is less than a record. */
@@ -191,7 +190,7 @@ static bool mutated(void)
         require(!checked(input.length), "a capture of another kind is refused");
         return false;
     }
-    if (records_alone(HEADER, input.length)) {
+    if (records_alone(input.length)) {
         require(checked(input.length), "a good capture is appended to");
         return true;
     }
@@ -199,7 +198,7 @@ static bool mutated(void)
     const char *place = strstr(said, "at byte "), *advice = strstr(said, "truncate -s ");
     require(place != NULL, "the place is told");
     const size_t at = strtoul(place + strlen("at byte "), NULL, 10);
-    require(at >= HEADER && at < input.length && records_alone(HEADER, at), "whole records end there");
+    require(at >= HEADER && at < input.length && records_alone(at), "whole records end there");
     if (advice != NULL) {
         require(strtoul(advice + strlen("truncate -s "), NULL, 10) == at, "the place to cut is this one");
         require(zeros_alone(at) || less_than_record(at), "nothing is lost by cutting there");
