@@ -1,5 +1,6 @@
 #include "lda.h"
 
+#include <inttypes.h>
 #include <stdlib.h>
 #include <string.h>
 
@@ -16,25 +17,15 @@ typedef struct reading {
     const contents *file;
     size_t at;      /* where the next block begins, or is looked for */
     size_t blocks;  /* that were taken */
-    size_t skipped; /* bytes other than 0 outside the blocks */
-    size_t first;   /* where the first of these is */
     bool over;      /* the block that ends the program has come */
     uint32_t start; /* its address */
     uint8_t memory[SPACE];
     uint8_t laid[SPACE]; /* 1 for each byte that a block gave */
 } reading;
 
-static void tell_skipped(const reading *r)
-{
-    if (r->skipped > 0)
-        complain(0, "%s: bytes outside the blocks are skipped: %zu other than 0, the first at byte %zu", r->path,
-            r->skipped, r->first);
-}
-
-/* What is wrong with the block, and at which of its bytes. The cause may stand in what was skipped before it. */
+/* What is wrong with the block, and at which of its bytes. */
 static int bad(const reading *r, size_t byte, const char *why)
 {
-    tell_skipped(r);
     return complain(
         STATUS_FILE, "%s, byte %zu, in the block that begins at byte %zu: %s", r->path, r->at + byte, r->at, why);
 }
@@ -52,17 +43,65 @@ static uint8_t sum(const uint8_t *bytes, size_t length)
     return total;
 }
 
-/* Goes on to the next byte that begins a block; false if there is none. */
-static bool find_block(reading *r)
+/* ---- What a block is ------------------------------------------------- */
+
+/* The length of the block that stands at this byte, by its count; 0 if its second byte or its count is wrong, or the
+ * file ends before it does. */
+static size_t block_length(const contents *file, size_t at)
 {
-    for (; r->at < r->file->length; r->at++) {
-        uint8_t byte = r->file->bytes[r->at];
-        if (byte == BLOCK)
-            return true;
-        if (byte != 0 && r->skipped++ == 0)
-            r->first = r->at;
+    const uint8_t *block = file->bytes + at;
+    const size_t left = file->length - at;
+    if (left <= HEADER || block[1] != 0)
+        return 0;
+    const size_t count = low_first(block + 2);
+    return count >= HEADER && count < left ? count + 1 : 0;
+}
+
+/* Whether its checksum is right, where it begins with 1 as it must. */
+static bool sums_up(const contents *file, size_t at, size_t length)
+{
+    return length > 0 && (uint8_t)(BLOCK + sum(file->bytes + at + 1, length - 1)) == 0;
+}
+
+/* ---- The blocks ------------------------------------------------------ */
+
+/* Of what stands before the first block: a block whose first byte alone is wrong, which ends there but for zeros. */
+static int check_leader(const reading *r)
+{
+    const contents *file = r->file;
+    size_t last = r->at;
+    while (last > 0 && file->bytes[last - 1] == 0)
+        last--;
+    for (size_t at = 0; at < last; at++) {
+        const size_t length = block_length(file, at), end = at + length;
+        if (end >= last && end <= r->at && sums_up(file, at, length))
+            return complain(STATUS_FILE, "%s, byte %zu: a block begins here with 0x%02X and not with 1: it is damaged",
+                r->path, at, file->bytes[at]);
     }
-    return false;
+    return 0;
+}
+
+/* Goes on to the first byte that begins a block. What stands before it may be a leader, punched to be read by eye. */
+static int skip_leader(reading *r)
+{
+    const contents *file = r->file;
+    size_t skipped = 0, first = 0;
+    for (; r->at < file->length && file->bytes[r->at] != BLOCK; r->at++)
+        if (file->bytes[r->at] != 0 && skipped++ == 0)
+            first = r->at;
+    if (skipped == 0 || r->at == file->length)
+        return 0;
+    complain(0, "%s: bytes before the first block are skipped: %zu other than 0, the first at byte %zu", r->path,
+        skipped, first);
+    return check_leader(r);
+}
+
+/* Goes on to the next byte other than 0; false if there is none. */
+static bool skip_zeros(reading *r)
+{
+    while (r->at < r->file->length && r->file->bytes[r->at] == 0)
+        r->at++;
+    return r->at < r->file->length;
 }
 
 /* A good block: its data, or the start address where it has none. */
@@ -81,6 +120,10 @@ static int take_block(reading *r)
 {
     const uint8_t *block = r->file->bytes + r->at;
     const size_t left = r->file->length - r->at;
+    if (block[0] != BLOCK)
+        return complain(STATUS_FILE,
+            "%s, byte %zu: 0x%02X stands where a block is to begin with 1: it is damaged, or bytes were lost or added",
+            r->path, r->at, block[0]);
     if (left < HEADER)
         return bad(r, left, "the file ends before the block does");
     if (block[1] != 0)
@@ -100,11 +143,13 @@ static int take_block(reading *r)
 
 static int take_blocks(reading *r)
 {
-    int status = 0;
-    while (status == 0 && !r->over && find_block(r))
+    int status = skip_leader(r);
+    while (status == 0 && !r->over && skip_zeros(r))
         status = take_block(r);
     return status;
 }
+
+/* ---- The memory ------------------------------------------------------ */
 
 /* The first address behind this one whose mark is another. */
 static size_t run_end(const reading *r, size_t from)
@@ -124,17 +169,26 @@ static int add_runs(pieces *p, const reading *r)
     return status;
 }
 
-/* What stands behind the block that ends the program. */
-static void tell_behind(const reading *r)
+/* ---- The file -------------------------------------------------------- */
+
+/* What stands behind the block that ends the program: zeros, or other bytes, which is told. Where another block is
+ * among them the file is no program: of an object file the block that ends its symbols looks like an end block. */
+static int check_behind(const reading *r)
 {
-    size_t at = r->at;
-    while (at < r->file->length && r->file->bytes[at] == 0)
-        at++;
-    if (at < r->file->length)
-        complain(0,
-            "%s: the program ends before byte %zu, and what stands behind is not read: at byte %zu it is not 0 (an "
-            "object file, which is not linked yet, looks so)",
-            r->path, r->at, at);
+    const contents *file = r->file;
+    size_t first = r->at;
+    while (first < file->length && file->bytes[first] == 0)
+        first++;
+    for (size_t at = first; at < file->length; at++)
+        if (file->bytes[at] == BLOCK && sums_up(file, at, block_length(file, at)))
+            return complain(STATUS_FILE,
+                "%s: the program ends before byte %zu, and another block begins at byte %zu: it is an object file, "
+                "which is not linked yet, or two programs one behind the other (head -c %zu gives the first)",
+                r->path, r->at, at, r->at);
+    if (first < file->length)
+        complain(0, "%s: the program ends before byte %zu, and what stands behind is not read: at byte %zu it is not 0",
+            r->path, r->at, first);
+    return 0;
 }
 
 int lda_bytes(pieces *p, const char *path, const contents *file)
@@ -143,15 +197,18 @@ int lda_bytes(pieces *p, const char *path, const contents *file)
     int status = take_blocks(&r);
     if (status != 0)
         return status;
-    tell_skipped(&r);
     if (r.blocks == 0)
         return complain(STATUS_FILE, "%s has no block: it is not in the absolute loader format", path);
     if (!r.over)
         return complain(STATUS_FILE, "%s has no end block: it was cut short", path);
-    tell_behind(&r);
+    status = check_behind(&r);
+    if (status != 0)
+        return status;
     if (r.start % 2 == 0) {
         p->transfer = r.start;
         p->has_transfer = true;
+    } else {
+        complain(0, "%s: its start address 0o%" PRIo32 " is odd, which means none", path, r.start);
     }
     return add_runs(p, &r);
 }

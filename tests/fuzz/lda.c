@@ -2,6 +2,7 @@
  * made of it holds that. */
 #include "lda.h"
 
+#include <inttypes.h>
 #include <stdio.h>
 #include <stdlib.h>
 #include <string.h>
@@ -23,6 +24,8 @@ static void put_block(uint32_t address, size_t length)
     for (size_t i = first; i < input.length; i++)
         sum = (uint8_t)(sum - input.bytes[i]);
     put_byte(one_in(200) ? (uint8_t)(sum + 1) : sum);
+    if (one_in(100))
+        input.bytes[first] = (uint8_t)below(256);
 }
 
 /* What stands around the blocks: often nothing, or zeros. */
@@ -62,6 +65,8 @@ static void make_file(void)
     if (!one_in(20))
         put_block(one_in(4) ? 1 : any_number() & 0xFFFF, 0);
     put_between();
+    if (one_in(10))
+        put_block(any_number() & 0xFFFF, below(9));
     if (one_in(2))
         mutate(NULL);
 }
@@ -75,13 +80,19 @@ typedef struct loader {
     size_t header[6];  /* the first of them */
     size_t sum;        /* of all */
     size_t blocks;     /* that were good */
-    size_t skipped;    /* bytes other than 0 between blocks, and the first of them */
+    size_t leader;     /* bytes before the first block */
+    size_t skipped;    /* those of them other than 0, and the first of these */
     size_t first;      /* .. */
     bool ended;        /* the end block came; */
     size_t end;        /* the byte behind it, */
     size_t behind;     /* and the first one from there on that is not 0, or 0 */
-    const char *fault; /* what is wrong, or NULL, */
+    const char *fault; /* what is wrong in a block, or NULL, */
     size_t fault_at;   /* and at which byte */
+    bool stray;        /* a byte between two blocks is not 0, the one that came last */
+    bool hidden;       /* before the first block there is one whose first byte is wrong, */
+    size_t hidden_at;  /* here */
+    bool again;        /* a block stands behind the end block, */
+    size_t again_at;   /* the first one here */
     slow *memory;
 } loader;
 
@@ -152,18 +163,60 @@ static void in_block(loader *l, uint8_t byte)
 static void between_blocks(loader *l, uint8_t byte)
 {
     if (byte == 1) {
+        l->leader = l->blocks == 0 ? l->at : l->leader;
         l->block = l->at;
         l->seen = 1;
         l->sum = 1;
+    } else if (byte != 0 && l->blocks > 0) {
+        l->stray = true;
+        l->block = l->at;
     } else if (byte != 0) {
         l->first = l->skipped == 0 ? l->at : l->first;
         l->skipped += 1;
     }
 }
 
+/* Whether this part of the file, but for its first byte, is one good block. */
+static bool is_rest(const uint8_t *bytes, size_t length)
+{
+    unsigned total = 1;
+    if (length < 7 || bytes[1] != 0 || bytes[2] + 256U * bytes[3] + 1 != length)
+        return false;
+    for (size_t i = 1; i < length; i++)
+        total += bytes[i];
+    return total % 256 == 0;
+}
+
+static bool all_zeros(const uint8_t *bytes, size_t length)
+{
+    size_t zeros = 0;
+    while (zeros < length && bytes[zeros] == 0)
+        zeros++;
+    return zeros == length;
+}
+
+/* A block before the first one that is good but for its first byte: nothing but zeros stands between the two. */
+static void look_before(loader *l, const contents *file)
+{
+    for (size_t at = 0; l->skipped > 0 && !l->hidden && at < l->leader; at++) {
+        l->hidden_at = at;
+        for (size_t end = l->leader; !l->hidden && end > at && all_zeros(file->bytes + end, l->leader - end); end--)
+            l->hidden = is_rest(file->bytes + at, end - at);
+    }
+}
+
+static void look_behind(loader *l, const contents *file)
+{
+    for (size_t at = l->end; l->ended && !l->again && at < file->length; at++) {
+        l->again_at = at;
+        for (size_t end = at + 7; file->bytes[at] == 1 && !l->again && end <= file->length; end++)
+            l->again = is_rest(file->bytes + at, end - at);
+    }
+}
+
 static void load(loader *l, const contents *file)
 {
-    for (; l->at < file->length && l->fault == NULL; l->at++)
+    for (; l->at < file->length && l->fault == NULL && !l->stray; l->at++)
         if (l->ended)
             l->behind = l->behind == 0 && file->bytes[l->at] != 0 ? l->at : l->behind;
         else if (l->seen > 0)
@@ -172,29 +225,53 @@ static void load(loader *l, const contents *file)
             between_blocks(l, file->bytes[l->at]);
     if (l->fault == NULL && l->seen > 0)
         fault(l, file->length, "the file ends before the block does");
+    look_before(l, file);
+    look_behind(l, file);
 }
 
 /* ---- What must hold -------------------------------------------------- */
 
-/* What is said last of a file: why it is refused; else what stands behind the end block, or between the blocks. */
-static void check_said(const loader *l)
+/* Why a file is refused; empty if it is not. */
+static void refusal(const loader *l, char *want, size_t most)
 {
-    char want[SAID_MOST] = "";
-    if (l->fault != NULL)
-        snprintf(want, sizeof want, "file, byte %zu, in the block that begins at byte %zu: %s", l->fault_at, l->block,
-            l->fault);
+    if (l->hidden)
+        snprintf(want, most, "file, byte %zu: a block begins here with 0x", l->hidden_at);
+    else if (l->fault != NULL)
+        snprintf(
+            want, most, "file, byte %zu, in the block that begins at byte %zu: %s", l->fault_at, l->block, l->fault);
+    else if (l->stray)
+        snprintf(want, most, "file, byte %zu: 0x", l->block);
     else if (l->blocks == 0)
-        snprintf(want, sizeof want, "file has no block: ");
+        snprintf(want, most, "file has no block: ");
     else if (!l->ended)
-        snprintf(want, sizeof want, "file has no end block: ");
+        snprintf(want, most, "file has no end block: ");
+    else if (l->again)
+        snprintf(want, most, "file: the program ends before byte %zu, and another block begins at byte %zu: ", l->end,
+            l->again_at);
+}
+
+/* What is said last of a file that is taken: that it has no start, what stands behind the end block, or before the first
+ * block. */
+static void telling(const loader *l, char *want, size_t most)
+{
+    if (!l->memory->starts)
+        snprintf(want, most, "file: its start address 0o%" PRIo64 " is odd, which means none", l->memory->start);
     else if (l->behind > 0)
-        snprintf(want, sizeof want,
+        snprintf(want, most,
             "file: the program ends before byte %zu, and what stands behind is not read: at byte %zu it ", l->end,
             l->behind);
     else if (l->skipped > 0)
-        snprintf(want, sizeof want,
-            "file: bytes outside the blocks are skipped: %zu other than 0, the first at byte %zu", l->skipped,
-            l->first);
+        snprintf(want, most, "file: bytes before the first block are skipped: %zu other than 0, the first at byte %zu",
+            l->skipped, l->first);
+}
+
+static void check_said(const loader *l, bool refused)
+{
+    char want[SAID_MOST] = "";
+    refusal(l, want, sizeof want);
+    require(refused == (want[0] != '\0'), "both take the file or neither does");
+    if (!refused)
+        telling(l, want, sizeof want);
     require(strncmp(said, want, strlen(want)) == 0 && (want[0] != '\0' || said[0] == '\0'),
         "what is wrong or left out is said, with its place");
 }
@@ -210,8 +287,7 @@ bool fuzz_lda(void)
     contents file = exact();
     int status = lda_bytes(&p, "file", &file);
     load(&l, &file);
-    require((status == 0) == (l.fault == NULL && l.ended), "both take the file or neither does");
-    check_said(&l);
+    check_said(&l, status != 0);
     bool made = false;
     if (status == 0) {
         slow_judge(&want);
