@@ -209,7 +209,7 @@ $(DRIVER)/probe $(DRIVER)/say $(DRIVER)/digest $(DRIVER)/storm: $(DRIVER)/%: tes
 
 # The same programs with the address and undefined behaviour sanitizers, which most tests take.
 SANITIZED       = target/sanitized
-SANITIZED_TESTS = images records lda lda-simh sums veth storm ends verdicts kept handover rights watch loop trace interfaces chart progress manuals
+SANITIZED_TESTS = images records lda lda-simh sums veth storm ends verdicts kept handover rights watch loop trace interfaces chart progress bar manuals
 PLAIN_TESTS     = sums readme rom dist
 
 driver-sanitized: $(PROGRAMS:%=$(SANITIZED)/%) $(SANITIZED)/say $(SANITIZED)/digest $(SANITIZED)/storm

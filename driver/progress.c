@@ -13,6 +13,7 @@
 #define BAR_MOST 40
 #define BAR_LEAST 5
 #define TEXT_MOST 160
+#define RATE_LEAST 500 /* milliseconds before there is a rate: of less it says nothing */
 
 void progress_start(progress *p, const char *unit, uint64_t total)
 {
@@ -39,7 +40,7 @@ static int left_words(double seconds, char *text, size_t room)
     return snprintf(text, room, ", %" PRIu64 ":%02" PRIu64 " h left", s / 3600, s / 60 % 60);
 }
 
-/* The rate is that of what was done since the count of it began; there is none before. */
+/* The rate is that of what was done since the count of it began; there is none at first. */
 static int progress_words(const progress *p, uint64_t done, char text[TEXT_MOST])
 {
     const int64_t elapsed = clock_now() - p->since;
@@ -48,7 +49,7 @@ static int progress_words(const progress *p, uint64_t done, char text[TEXT_MOST]
     if (p->repeats > 0)
         length += snprintf(
             text + length, most - (size_t)length, ", %" PRIu64 " repeat%s", p->repeats, p->repeats == 1 ? "" : "s");
-    if (elapsed <= 0 || done <= p->first)
+    if (elapsed < RATE_LEAST || done <= p->first)
         return length;
     const double rate = (double)(done - p->first) * 1000 / (double)elapsed;
     length += rate_words(p, rate, text + length, most - (size_t)length);
@@ -69,7 +70,7 @@ static int columns(void)
 static int put_bar(progress *p, uint64_t done, int room)
 {
     if (room < p->bar)
-        p->bar = room;
+        p->bar = room > 0 ? room : 0;
     if (p->bar < BAR_LEAST)
         return 0;
     putchar('[');
@@ -79,14 +80,22 @@ static int put_bar(progress *p, uint64_t done, int room)
     return p->bar + 3;
 }
 
-/* Over the line that stood there; blanks go over what is left of it. A text that is too long is cut. */
+static int least(int a, int b)
+{
+    return a < b ? a : b;
+}
+
+/* Over the line that stood there; blanks go over what is left of it. What is too long for the terminal, whose width may
+ * change, is cut. */
 static void show_line(progress *p, uint64_t done, const char *text, int length)
 {
-    putchar('\r');
-    const int room = columns() - 1 - printf("%3" PRIu64 " %%  ", done * 100 / p->total);
-    const int shown = length < room ? length : room;
+    char share[32];
+    const int most = columns() - 1, before = snprintf(share, sizeof share, "%3" PRIu64 " %%  ", done * 100 / p->total);
+    printf("\r%.*s", least(before, most), share);
+    const int room = most - least(before, most), shown = least(length, room);
     const int width = shown + put_bar(p, done, room - shown - 3);
-    printf("%.*s%*s", shown < 0 ? 0 : shown, text, p->width > width ? p->width - width : 0, "");
+    const int stood = least(p->width, room);
+    printf("%.*s%*s", shown, text, stood > width ? stood - width : 0, "");
     p->width = width;
     words_bar();
 }
