@@ -29,6 +29,7 @@ static void tell_unserved(loading *l, const line_frame *frame, uint8_t type)
     if (l->unserved[type])
         return;
     l->unserved[type] = true;
+    words_bar_end();
     printf("%s asks for a %s (type %d), which is not served; --accept-type %d would serve it.\n",
         address_text(frame->from, from), program_words(type), type, type);
     fflush(stdout);
@@ -139,8 +140,8 @@ static void tell_begun(const loading *l)
     tell_type(l);
     fputs("Loading ", stdout);
     loading_machine(l, stdout);
-    printf(": %s, %" PRIu64 " segments of up to %" PRIu32 " bytes.\n", l->path, l->image.segments,
-        l->settings.segment_size);
+    printf(": %s, %" PRIu64 " segment%s of up to %" PRIu32 " byte%s.\n", l->path, l->image.segments,
+        l->image.segments == 1 ? "" : "s", l->settings.segment_size, l->settings.segment_size == 1 ? "" : "s");
     if (l->parameters.given) {
         fputs(
             l->settings.version == MOP_VERSION_2_1 ? "Ends with parameters of version 2.1: " : "Ends with parameters: ",
