@@ -6,6 +6,28 @@
 #include "lock.h"
 #include "words.h"
 
+#define PROGRAM_AT 3 /* where code 8 has the type of program */
+
+/* A group's address has an odd first byte. */
+static int machine_option(const char *value, uint8_t *address)
+{
+    int status = option_address("--machine", value, address);
+    if (status == 0 && address[0] % 2 != 0)
+        status =
+            complain(STATUS_USAGE, "--machine: %s is the address of a group, and no machine sends from one", value);
+    return status;
+}
+
+/* What is sent from the interface itself is not received there. */
+static int check_machine(const host *h)
+{
+    char own[ADDRESS_TEXT];
+    if (!h->named || memcmp(h->machine, h->line.address, ADDRESS_LENGTH) != 0)
+        return 0;
+    return complain(STATUS_USAGE, "--machine: %s is the address of %s itself: give the machine's",
+        address_text(h->machine, own), h->line.name);
+}
+
 int host_option(host *h, int option, const char *value, uint32_t *repeats)
 {
     switch (option) {
@@ -13,7 +35,7 @@ int host_option(host *h, int option, const char *value, uint32_t *repeats)
         return option_small("-R", value, 0, MOP_REPEATS_MOST, repeats);
     case OPTION_MACHINE:
         h->named = true;
-        return option_address("--machine", value, h->machine);
+        return machine_option(value, h->machine);
     default:
         return common_option(option, value, &h->settings);
     }
@@ -34,7 +56,9 @@ int host_open(host *h)
     if (status != 0)
         return status;
     h->line.alone = true;
-    status = lock_take(h->line.index, h->line.name);
+    status = check_machine(h);
+    if (status == 0)
+        status = lock_take(h->line.index, h->line.name);
     if (status == 0)
         status = line_join(&h->line);
     if (status != 0)
@@ -72,14 +96,34 @@ static int volunteer(host *h, const line_frame *frame)
     return line_send(&h->line, frame->from, offer, written.length);
 }
 
+/* Another station asks for a program, of whatever type, or offers a dump, as the machine would that is waited for. It is
+ * told once: the address that was given may be wrong. */
+static void tell_other(const host *h, const line_frame *frame)
+{
+    static bool told;
+    char other[ADDRESS_TEXT], machine[ADDRESS_TEXT];
+    line_frame asked = *frame;
+    if (told || h->calls->stage(h->job) != HOST_WAITING)
+        return;
+    if (asked.length > PROGRAM_AT && asked.bytes[0] == MOP_CODE_REQUEST_PROGRAM)
+        asked.bytes[PROGRAM_AT] = MOP_PROGRAM_SYSTEM;
+    if (!h->calls->begins(h->job, &asked))
+        return;
+    told = true;
+    complain(0, "%s asks too, but the machine is %s (see --machine): not served", address_text(frame->from, other),
+        address_text(h->machine, machine));
+}
+
 /* Once the machine has answered, its requests to all hosts go unheard, unless the
  * job may begin again. What comes before the session begins and does not begin it
  * is dropped: the library would count it, and the counts are to be of the machine
  * that is served. */
 static int take(host *h, line_frame *frame)
 {
-    if (h->named && memcmp(frame->from, h->machine, ADDRESS_LENGTH) != 0)
+    if (h->named && memcmp(frame->from, h->machine, ADDRESS_LENGTH) != 0) {
+        tell_other(h, frame);
         return 0;
+    }
     host_stage stage = h->calls->stage(h->job);
     h->calls->before(h->job, frame);
     if (frame->multicast)
@@ -95,12 +139,14 @@ static int take(host *h, line_frame *frame)
 
 static int silence(host *h)
 {
+    char machine[ADDRESS_TEXT];
     if (h->calls->stage(h->job) != HOST_WAITING)
         return step(h, NULL);
     return complain(STATUS_SILENT,
-        "no machine asked within %" PRIu32 " seconds for what is served: is it on, on this line, and set to "
+        "no machine asked within %" PRIu32 " second%s for what is served%s%s: is it on, on this line, and set to "
         "boot from the network? To see what comes, run mopwatch -i %s",
-        h->settings.wait, h->line.name);
+        h->settings.wait, h->settings.wait == 1 ? "" : "s", h->named ? ", and it was to be " : "",
+        h->named ? address_text(h->machine, machine) : "", h->line.name);
 }
 
 /* ---- The host as the line runs it ------------------------------------ */

@@ -1,5 +1,6 @@
 #include "manual.h"
 
+#include <ctype.h>
 #include <errno.h>
 #include <stdlib.h>
 #include <string.h>
@@ -73,9 +74,15 @@ void manual_help(FILE *out)
         out);
 }
 
+/* --version is the only word. */
+static bool stands_alone(const manual_of *program)
+{
+    return optarg == NULL && program->words[1] != NULL && program->words[2] == NULL;
+}
+
 static int put_version(const manual_of *program)
 {
-    if (optarg != NULL || program->words[optind] != NULL)
+    if (!stands_alone(program))
         return complain(STATUS_USAGE, "--version stands alone (see --help)");
     printf("%s of Kochipurn, commit %s\n", words_name(), program_version);
     return 0;
@@ -100,8 +107,10 @@ int manual_option(int option, const manual_of *program)
 int manual_version(const manual_of *program, uint8_t *version)
 {
     const char *next = optarg != NULL ? optarg : program->words[optind];
-    if (next == NULL)
+    if (stands_alone(program))
         return manual_option(OPTION_VERSION, program);
+    if (next == NULL || !isdigit((unsigned char)*next))
+        return complain(STATUS_USAGE, "--version stands alone; the version of the protocol is --protocol");
     if (optarg == NULL)
         optind += 1;
     return option_protocol(next, version);
