@@ -96,8 +96,8 @@ static int volunteer(host *h, const line_frame *frame)
     return line_send(&h->line, frame->from, offer, written.length);
 }
 
-/* Another station asks for a program, of whatever type, or offers a dump, as the machine would that is waited for. It is
- * told once: the address that was given may be wrong. */
+/* Another station asks for a program, of whatever type, or offers a dump, as the machine would that is waited for. It
+ * is told once: the address that was given may be wrong. */
 static void tell_other(const host *h, const line_frame *frame)
 {
     static bool told;

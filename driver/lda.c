@@ -213,6 +213,14 @@ int lda_bytes(pieces *p, const char *path, const contents *file)
     return add_runs(p, &r);
 }
 
+bool lda_likely(const contents *file)
+{
+    size_t at = 0;
+    while (at < file->length && file->bytes[at] == 0)
+        at++;
+    return at < file->length && file->bytes[at] == BLOCK && sums_up(file, at, block_length(file, at));
+}
+
 int lda_read(pieces *p, const char *path)
 {
     contents file;

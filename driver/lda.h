@@ -15,4 +15,7 @@ int lda_read(pieces *p, const char *path);
 /* The same of a file in memory, which is called path. */
 int lda_bytes(pieces *p, const char *path, const contents *file);
 
+/* Whether a file begins, behind zeros, with a good block. */
+bool lda_likely(const contents *file);
+
 #endif

@@ -1,7 +1,9 @@
 #include "listing.h"
 
+#include <ctype.h>
 #include <inttypes.h>
 
+#include "lda.h"
 #include "pieces.h"
 
 typedef image_entry entry;
@@ -67,8 +69,8 @@ void image_list(FILE *out, const contents *file, mop_image image, uint32_t most)
         fprintf(out, ".. %" PRIu32 " more (mopimage --list tells all regions) ..\n", last - first);
     print_entries(out, directory, last, image.regions);
     fprintf(out, "transfer address: 0x%08" PRIX32 " (0o%" PRIo32 ")\n", image.transfer, image.transfer);
-    fprintf(out, "%" PRIu64 " bytes to load, regions: %" PRIu32 "; the file has %zu bytes\n", total, image.regions,
-        file->length);
+    fprintf(out, "%" PRIu64 " byte%s to load, regions: %" PRIu32 "; the file has %zu bytes\n", total,
+        total == 1 ? "" : "s", image.regions, file->length);
 }
 
 /* What is wrong with an entry, or NULL. */
@@ -118,15 +120,36 @@ static void explain_entry(FILE *out, const uint8_t *file, uint64_t directory, ui
     }
 }
 
+/* Whether it begins with a letter of a record and a digit. */
+static bool begins_with(const contents *file, char letter)
+{
+    size_t at = 0;
+    while (at < file->length && isspace(file->bytes[at]))
+        at++;
+    return file->length - at >= 2 && file->bytes[at] == letter && isxdigit(file->bytes[at + 1]);
+}
+
+const char *image_unmade(const contents *file)
+{
+    if (begins_with(file, 'S'))
+        return "S-records: mopimage --srec";
+    if (begins_with(file, ':'))
+        return "Intel HEX: mopimage --ihex";
+    return lda_likely(file) ? "an LDA file: mopimage --lda" : NULL;
+}
+
 void image_explain(FILE *out, const contents *file, uint8_t refusal)
 {
-    fprintf(out, "the file has %zu bytes\n", file->length);
+    const char *unmade = refusal == MOP_REFUSED_FILE ? image_unmade(file) : NULL;
+    fprintf(out, "the file has %zu byte%s\n", file->length, file->length == 1 ? "" : "s");
+    if (unmade != NULL)
+        fprintf(out, "it looks like %s makes an image of it\n", unmade);
     if (file->length < IMAGE_TRAILER || file->length > MOP_FILE_MOST)
         return;
     const uint8_t *trailer = file->bytes + file->length - IMAGE_TRAILER;
     uint64_t directory = number(trailer, 4), count = number(trailer + 4, 4);
-    fprintf(out, "its trailer says: file length %" PRIu64 ", %" PRIu64 " regions, directory at byte %" PRIu64 "\n",
-        number(trailer + 12, 4), count, directory);
+    fprintf(out, "its trailer says: file length %" PRIu64 ", %" PRIu64 " region%s, directory at byte %" PRIu64 "\n",
+        number(trailer + 12, 4), count, count == 1 ? "" : "s", directory);
     if (refusal == MOP_REFUSED_FILE)
         fputs("it is no image file, or was cut short or added to\n", out);
     if (refusal == MOP_REFUSED_DIRECTORY)

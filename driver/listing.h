@@ -23,6 +23,9 @@ image_entry image_entry_at(const contents *file, mop_image image, uint32_t regio
 /* The region of such an image that has this address, counted from 1 as in the list. */
 unsigned image_region(const contents *file, mop_image image, uint32_t address);
 
+/* What a file looks like that is no image, where mopimage makes one of it, and its option for that; else NULL. */
+const char *image_unmade(const contents *file);
+
 /* What the trailer says and what is wrong with it, or a wrong entry behind the one
  * before it. */
 void image_explain(FILE *out, const contents *file, uint8_t refusal);

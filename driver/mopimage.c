@@ -1,6 +1,5 @@
 /* mopimage: makes, lists and checks image files. What an image is, the
  * library's check alone decides. */
-#include <errno.h>
 #include <inttypes.h>
 #include <stdio.h>
 #include <stdlib.h>
@@ -27,11 +26,19 @@ enum {
     OPTION_FORCE
 };
 
+/* A file that goes in. */
+typedef struct input {
+    int option; /* which says what is in it */
+    const char *path;
+    uint32_t at; /* of raw bytes */
+} input;
+
 typedef struct command {
     pieces pieces;
     output output;
-    const char **inputs;
-    const char *show; /* the image to list or check */
+    input *inputs;
+    const char **paths; /* theirs, for output */
+    const char *show;   /* the image to list or check */
     bool list;
     uint32_t transfer;
     bool has_transfer;
@@ -60,10 +67,38 @@ static int show(const command *c)
 
 /* ---- Making ---------------------------------------------------------- */
 
-static int make(command *c)
+static int read_raw(pieces *p, const input *in)
 {
     contents file = {NULL, 0};
-    int status = output_check(&c->output);
+    int status = file_read(in->path, MOP_FILE_MOST, &file);
+    if (status == 0 && file.length == 0)
+        status = complain(STATUS_IMAGE, "%s is empty", in->path);
+    if (status == 0)
+        status = pieces_add(p, in->at, file.bytes, file.length);
+    free(file.bytes);
+    return status;
+}
+
+static int read_input(pieces *p, const input *in)
+{
+    switch (in->option) {
+    case OPTION_SREC:
+        return srec_read(p, in->path);
+    case OPTION_IHEX:
+        return ihex_read(p, in->path);
+    case OPTION_LDA:
+        return lda_read(p, in->path);
+    default:
+        return read_raw(p, in);
+    }
+}
+
+/* All that goes in, and where the program starts. */
+static int collect(command *c)
+{
+    int status = 0;
+    for (size_t i = 0; status == 0 && i < c->output.inputs_count; i++)
+        status = read_input(&c->pieces, &c->inputs[i]);
     if (status == 0)
         status = pieces_join(&c->pieces);
     if (status != 0)
@@ -72,7 +107,17 @@ static int make(command *c)
         c->pieces.transfer = c->transfer;
     else if (!c->pieces.has_transfer)
         return complain(STATUS_USAGE, "no input says where the program starts: give --transfer ADDRESS");
-    status = pieces_image(&c->pieces, &file);
+    return 0;
+}
+
+static int make(command *c)
+{
+    contents file = {NULL, 0};
+    int status = output_check(&c->output);
+    if (status == 0)
+        status = collect(c);
+    if (status == 0)
+        status = pieces_image(&c->pieces, &file);
     if (status != 0)
         return status;
     mop_image image = mop_image_check(file.bytes, file.length, MOP_SEGMENT_MOST);
@@ -114,13 +159,15 @@ static const char manual[] = "NAME\n"
                              "  --at ADDRESS FILE\n"
                              "        The bytes of FILE as they are, from ADDRESS on.\n"
                              "  --lda FILE\n"
-                             "        The absolute loader format of the PDP-11 (.LDA, .BIN). Every block is\n"
-                             "        read, or the file is refused with the byte, counted from 0: a wrong\n"
-                             "        checksum or count, a second byte of a block that is not 0, a block that\n"
-                             "        runs over address 0xFFFF, a file cut short, or without a block or an\n"
-                             "        end block. A later block is laid over an earlier one, as the loader\n"
-                             "        does. Bytes other than 0 are skipped between the blocks, and not read\n"
-                             "        behind the end block, and that is told.\n"
+                             "        The absolute loader format of the PDP-11 (.LDA, .BIN). Every block from\n"
+                             "        the first on is read, or the file is refused with the byte, counted from\n"
+                             "        0: a wrong checksum or count, a second byte of a block that is not 0, a\n"
+                             "        block that runs over address 0xFFFF, bytes other than 0 between blocks,\n"
+                             "        a file cut short, or without a block or an end block. So is a file with\n"
+                             "        another block behind the end block: an object file, which is not linked\n"
+                             "        yet, looks so. A later block is laid over an earlier one, as the loader\n"
+                             "        does. Other bytes are skipped before the first block, such as a punched\n"
+                             "        leader, and not read behind the end block, and that is told.\n"
                              "  --srec FILE, --ihex FILE\n"
                              "        Motorola S-records; Intel HEX. Every record is read, or the file is\n"
                              "        refused with the line and the column: a wrong checksum, length, type or\n"
@@ -133,7 +180,8 @@ static const char manual[] = "NAME\n"
                              "  --list IMAGE\n"
                              "        All regions and the transfer address.\n"
                              "  --check IMAGE\n"
-                             "        Whether the library takes the image, and if not why, in words.\n";
+                             "        Whether the library takes the image, and if not why, in words. Neither\n"
+                             "        --list nor --check goes with another option.\n";
 
 static void help(FILE *out)
 {
@@ -153,28 +201,30 @@ static void help(FILE *out)
         out);
 }
 
-/* Takes note of a file that is read. */
-static const char *input(command *m, const char *path)
+/* Takes note of a file that goes in. */
+static int note(command *m, int option, const char *path, uint32_t at)
 {
-    m->inputs[m->output.inputs_count++] = path;
-    return path;
+    m->inputs[m->output.inputs_count] = (input){option, path, at};
+    m->paths[m->output.inputs_count++] = path;
+    return 0;
 }
 
-static int add_raw(command *m, const char *address, const char *path)
+static int note_raw(command *m, const char *address, const char *path)
 {
-    contents file = {NULL, 0};
     uint32_t at = 0;
     if (path == NULL)
         return complain(STATUS_USAGE, "--at: give an address and a file");
     int status = option_small("--at", address, 0, UINT32_MAX, &at);
-    if (status == 0)
-        status = file_read(input(m, path), MOP_FILE_MOST, &file);
-    if (status == 0 && file.length == 0)
-        status = complain(STATUS_IMAGE, "%s is empty", path);
-    if (status == 0)
-        status = pieces_add(&m->pieces, at, file.bytes, file.length);
-    free(file.bytes);
-    return status;
+    return status == 0 ? note(m, OPTION_AT, path, at) : status;
+}
+
+static int note_show(command *m, const char *path, bool list)
+{
+    if (m->show != NULL)
+        return complain(STATUS_USAGE, "--list and --check take one image (see --help)");
+    m->show = path;
+    m->list = list;
+    return 0;
 }
 
 static int option(int c, char **words, command *m)
@@ -184,21 +234,17 @@ static int option(int c, char **words, command *m)
         m->output.path = optarg;
         return 0;
     case OPTION_AT:
-        return add_raw(m, optarg, words[optind] == NULL ? NULL : words[optind++]);
+        return note_raw(m, optarg, words[optind] == NULL ? NULL : words[optind++]);
     case OPTION_SREC:
-        return srec_read(&m->pieces, input(m, optarg));
     case OPTION_IHEX:
-        return ihex_read(&m->pieces, input(m, optarg));
     case OPTION_LDA:
-        return lda_read(&m->pieces, input(m, optarg));
+        return note(m, c, optarg, 0);
     case OPTION_TRANSFER:
         m->has_transfer = true;
         return option_small("--transfer", optarg, 0, UINT32_MAX, &m->transfer);
     case OPTION_LIST:
     case OPTION_CHECK:
-        m->show = optarg;
-        m->list = c == OPTION_LIST;
-        return 0;
+        return note_show(m, optarg, c == OPTION_LIST);
     case OPTION_FORCE:
         m->output.force = true;
         return 0;
@@ -224,6 +270,8 @@ static int options(int count, char **words, command *m)
         return complain(STATUS_USAGE, "'%s' is too much (see --help)", words[optind]);
     if ((m->output.path == NULL) == (m->show == NULL))
         return complain(STATUS_USAGE, "give -o IMAGE and what goes in, or --list or --check IMAGE (see --help)");
+    if (m->show != NULL && (m->output.inputs_count > 0 || m->has_transfer || m->output.force))
+        return complain(STATUS_USAGE, "--list and --check take an image and no other option (see --help)");
     return 0;
 }
 
@@ -232,13 +280,15 @@ int main(int count, char **words)
     static command c;
     words_program("mopimage");
     c.inputs = calloc((size_t)count + 1, sizeof *c.inputs); /* each input is a word at least */
-    c.output.inputs = c.inputs;
-    int status = c.inputs == NULL ? complain(STATUS_OTHER, "no memory") : options(count, words, &c);
+    c.paths = calloc((size_t)count + 1, sizeof *c.paths);
+    c.output.inputs = c.paths;
+    int status = c.inputs == NULL || c.paths == NULL ? complain(STATUS_OTHER, "no memory") : options(count, words, &c);
     if (status == 0)
         status = c.show != NULL ? show(&c) : make(&c);
     if (status == 0)
         status = words_written();
     pieces_free(&c.pieces);
     free(c.inputs);
+    free(c.paths);
     return status;
 }

@@ -162,8 +162,8 @@ static bool resets(machine_end *m, const line_frame *frame)
     return m->received == m->reset_after;
 }
 
-/* As switched off and on: no byte of memory is as it was, but for the ROM. What has come is lost, and nothing is kept. The
- * machine asks all hosts. */
+/* As switched off and on: no byte of memory is as it was, but for the ROM. What has come is lost, and nothing is kept.
+ * The machine asks all hosts. */
 static int reset(machine_end *m)
 {
     const mop_window *rom = &m->settings.window;
@@ -226,8 +226,8 @@ static int on_timer(void *end)
     machine_end *m = end;
     if (clock_now() < m->limit)
         return timer(m);
-    return complain(STATUS_SILENT, "no host was heard for %" PRIu32 " seconds; the machine is %s", m->common.wait,
-        state_words(m->machine.state));
+    return complain(STATUS_SILENT, "no host was heard for %" PRIu32 " second%s; the machine is %s", m->common.wait,
+        m->common.wait == 1 ? "" : "s", state_words(m->machine.state));
 }
 
 static void tell_rom(const machine_end *m)
@@ -376,13 +376,11 @@ static int option(int c, char **words, machine_end *m)
         m->idle = true;
         return 0;
     case OPTION_FILL:
-        m->files[FILL] = value;
+    case OPTION_ROM_FILE:
+        m->files[c == OPTION_FILL ? FILL : ROM] = value;
         return 0;
     case OPTION_ROM:
         return rom_option(value, words[optind] == NULL ? NULL : words[optind++], &m->settings.window);
-    case OPTION_ROM_FILE:
-        m->files[ROM] = value;
-        return 0;
     case OPTION_SAVE:
         m->save.path = value;
         return 0;

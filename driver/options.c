@@ -33,7 +33,7 @@ int option_number(const char *name, const char *text, uint64_t least, uint64_t m
             STATUS_USAGE, "%s: '%s' is no number (write 512, 0x200 or 0o1000; no leading zero)", name, text);
     errno = 0;
     unsigned long long value = strtoull(digits, &end, base);
-    if (*end != '\0')
+    if (*end != '\0' || strpbrk(digits, "xX") != NULL) /* strtoull takes a second 0x too */
         return complain(STATUS_USAGE, "%s: '%s' is no number (write 512, 0x200 or 0o1000)", name, text);
     if (errno != 0 || value < least || value > most)
         return complain(STATUS_USAGE, "%s: %s is not between %" PRIu64 " and %" PRIu64, name, text, least, most);

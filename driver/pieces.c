@@ -2,6 +2,7 @@
 
 #include <assert.h>
 #include <inttypes.h>
+#include <stdio.h>
 #include <stdlib.h>
 #include <string.h>
 
@@ -26,7 +27,8 @@ static int grow_list(pieces *p)
 static int grow_store(pieces *p, size_t length)
 {
     if (p->store.length + length > MOP_FILE_MOST)
-        return complain(STATUS_IMAGE, "there are more bytes than an image can hold, %d", MOP_FILE_MOST);
+        return complain(STATUS_IMAGE, "there are %zu bytes or more, and an image file has at most %d: leave bytes out",
+            p->store.length + length, MOP_FILE_MOST);
     if (p->store.length + length <= p->store_room)
         return 0;
     size_t room = 2 * (p->store.length + length);
@@ -118,15 +120,24 @@ static uint8_t *put(uint8_t *at, uint64_t number, int bytes)
     return at;
 }
 
+/* Of one region there is no gap to fill. */
+static int too_long(const pieces *p, size_t behind)
+{
+    char gaps[60] = "";
+    if (p->count > 1)
+        snprintf(gaps, sizeof gaps, ", or fill gaps of under %d bytes", IMAGE_ENTRY);
+    return complain(STATUS_IMAGE,
+        "%zu bytes of regions and %zu of directory and trailer are %zu, and an image file has at most %d: leave bytes "
+        "out%s",
+        p->store.length, behind, p->store.length + behind, MOP_FILE_MOST, gaps);
+}
+
 int pieces_image(const pieces *p, contents *image)
 {
     const size_t behind = IMAGE_ENTRY * p->count + IMAGE_TRAILER;
     image->length = p->store.length + behind;
     if (image->length > MOP_FILE_MOST)
-        return complain(STATUS_IMAGE,
-            "%zu bytes of regions and %zu of directory and trailer are %zu, and an image file has at most %d: leave "
-            "bytes out, or fill gaps of under %d bytes",
-            p->store.length, behind, image->length, MOP_FILE_MOST, IMAGE_ENTRY);
+        return too_long(p, behind);
     image->bytes = malloc(image->length);
     if (image->bytes == NULL)
         return complain(STATUS_OTHER, "no memory");

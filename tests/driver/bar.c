@@ -1,6 +1,6 @@
 /* bar UNIT TOTAL COLUMNS STEP..: what progress.c shows, with a clock and a terminal of this program's own. A STEP is
- * DONE:REPEATS:MILLISECONDS, with the time since the step before, or wN: from now on the terminal has N columns. 0 COLUMNS
- * is no terminal. */
+ * DONE:REPEATS:MILLISECONDS, with the time since the step before, or wN: from now on the terminal has N columns.
+ * 0 COLUMNS is no terminal. */
 #include <inttypes.h>
 #include <stdarg.h>
 #include <stdio.h>

@@ -250,8 +250,8 @@ static void refusal(const loader *l, char *want, size_t most)
             l->again_at);
 }
 
-/* What is said last of a file that is taken: that it has no start, what stands behind the end block, or before the first
- * block. */
+/* What is said last of a file that is taken: that it has no start, what stands behind the end block, or before the
+ * first one. */
 static void telling(const loader *l, char *want, size_t most)
 {
     if (!l->memory->starts)
