@@ -121,12 +121,12 @@ static void explain_entry(FILE *out, const uint8_t *file, uint64_t directory, ui
 }
 
 /* Whether it begins with a letter of a record and a digit. */
-static bool begins_with(const contents *file, char letter)
+static bool begins_with(const contents *file, uint8_t letter)
 {
-    size_t at = 0;
-    while (at < file->length && isspace(file->bytes[at]))
-        at++;
-    return file->length - at >= 2 && file->bytes[at] == letter && isxdigit(file->bytes[at + 1]);
+    for (size_t at = 0; at + 1 < file->length; at++)
+        if (!isspace(file->bytes[at]))
+            return file->bytes[at] == letter && isxdigit(file->bytes[at + 1]);
+    return false;
 }
 
 const char *image_unmade(const contents *file)

@@ -275,18 +275,24 @@ static int options(int count, char **words, command *m)
     return 0;
 }
 
+static int run(int count, char **words, command *c)
+{
+    c->inputs = calloc((size_t)count + 1, sizeof *c->inputs); /* each input is a word at least */
+    c->paths = calloc((size_t)count + 1, sizeof *c->paths);
+    c->output.inputs = c->paths;
+    if (c->inputs == NULL || c->paths == NULL)
+        return complain(STATUS_OTHER, "no memory");
+    int status = options(count, words, c);
+    if (status == 0)
+        status = c->show != NULL ? show(c) : make(c);
+    return status == 0 ? words_written() : status;
+}
+
 int main(int count, char **words)
 {
     static command c;
     words_program("mopimage");
-    c.inputs = calloc((size_t)count + 1, sizeof *c.inputs); /* each input is a word at least */
-    c.paths = calloc((size_t)count + 1, sizeof *c.paths);
-    c.output.inputs = c.paths;
-    int status = c.inputs == NULL || c.paths == NULL ? complain(STATUS_OTHER, "no memory") : options(count, words, &c);
-    if (status == 0)
-        status = c.show != NULL ? show(&c) : make(&c);
-    if (status == 0)
-        status = words_written();
+    int status = run(count, words, &c);
     pieces_free(&c.pieces);
     free(c.inputs);
     free(c.paths);
