@@ -171,6 +171,24 @@ static int add_runs(pieces *p, const reading *r)
 
 /* ---- The file -------------------------------------------------------- */
 
+/* Goes on to the next good block, or to the file's end. With the sum of all that stands before each byte, no block's own
+ * has to be counted: there may be many, and long ones. */
+static int find_block(const contents *file, size_t *at)
+{
+    uint8_t *sums = calloc(file->length + 1, 1);
+    if (sums == NULL)
+        return complain(STATUS_OTHER, "no memory");
+    for (size_t i = 0; i < file->length; i++)
+        sums[i + 1] = (uint8_t)(sums[i] + file->bytes[i]);
+    for (; *at < file->length; *at += 1) {
+        const size_t length = file->bytes[*at] == BLOCK ? block_length(file, *at) : 0;
+        if (length > 0 && sums[*at + length] == sums[*at])
+            break;
+    }
+    free(sums);
+    return 0;
+}
+
 /* What stands behind the block that ends the program: zeros, or other bytes, which is told. Where another block is
  * among them the file is no program: of an object file the block that ends its symbols looks like an end block. */
 static int check_behind(const reading *r)
@@ -179,16 +197,17 @@ static int check_behind(const reading *r)
     size_t first = r->at;
     while (first < file->length && file->bytes[first] == 0)
         first++;
-    for (size_t at = first; at < file->length; at++)
-        if (file->bytes[at] == BLOCK && sums_up(file, at, block_length(file, at)))
-            return complain(STATUS_FILE,
-                "%s: the program ends before byte %zu, and another block begins at byte %zu: it is an object file, "
-                "which is not linked yet, or two programs one behind the other (head -c %zu gives the first)",
-                r->path, r->at, at, r->at);
-    if (first < file->length)
+    size_t block = first;
+    int status = find_block(file, &block);
+    if (status == 0 && block < file->length)
+        status = complain(STATUS_FILE,
+            "%s: the program ends before byte %zu, and another block begins at byte %zu: it is an object file, which "
+            "is not linked yet, or two programs one behind the other (head -c %zu gives the first)",
+            r->path, r->at, block, r->at);
+    else if (status == 0 && first < file->length)
         complain(0, "%s: the program ends before byte %zu, and what stands behind is not read: at byte %zu it is not 0",
             r->path, r->at, first);
-    return 0;
+    return status;
 }
 
 int lda_bytes(pieces *p, const char *path, const contents *file)
