@@ -171,8 +171,8 @@ static int add_runs(pieces *p, const reading *r)
 
 /* ---- The file -------------------------------------------------------- */
 
-/* Goes on to the next good block, or to the file's end. With the sum of all that stands before each byte, no block's own
- * has to be counted: there may be many, and long ones. */
+/* Goes on to the next good block, or to the file's end. With the sum of all that stands before each byte, no block's
+ * own has to be counted: there may be many, and long ones. */
 static int find_block(const contents *file, size_t *at)
 {
     uint8_t *sums = calloc(file->length + 1, 1);
