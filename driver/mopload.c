@@ -347,9 +347,11 @@ static int read_image(loading *l)
     if (status != 0)
         return status;
     l->image = mop_image_check(l->file.bytes, l->file.length, l->settings.segment_size);
+    const char *unmade = l->image.refusal == MOP_REFUSED_FILE ? image_unmade(&l->file) : NULL;
     if (l->image.refusal != 0)
-        return complain(STATUS_IMAGE, "%s is refused (%d): %s; mopimage --check tells more", l->path, l->image.refusal,
-            refusal_words(l->image.refusal));
+        return complain(STATUS_IMAGE, "%s is refused (%d): %s; %s%s", l->path, l->image.refusal,
+            refusal_words(l->image.refusal), unmade == NULL ? "mopimage --check tells more" : "it looks like ",
+            unmade == NULL ? "" : unmade);
     progress_start(&l->progress, l->parameters.given ? "frames" : "segments", loading_frames(l));
     return check_restart(l);
 }
