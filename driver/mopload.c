@@ -4,6 +4,7 @@
 #include <stdlib.h>
 #include <string.h>
 
+#include "listing.h"
 #include "loading.h"
 #include "words.h"
 
