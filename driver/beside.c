@@ -5,20 +5,42 @@
 #include <stdlib.h>
 #include <string.h>
 
-#include "mop.h"
 #include "words.h"
 
-#define WINDOW 1024                    /* frames among which a frame is looked for */
-#define FAR 10000000                   /* microseconds that no frame is on its way */
-#define SILENCE 10000000               /* microseconds after which a capture may have stopped */
-#define ONE_CLOCK 500000               /* microseconds: clocks that differ by less are taken for one */
-#define STRANGER (2 * CHART_ROWS_MOST) /* counts more than all frames that came too early */
-#define TRIES 100                      /* frames by which the clocks are compared */
+#define FAR 10000000     /* microseconds that no frame is on its way */
+#define NEAR 100000      /* microseconds: differences of the clocks that are farther from the middle one are left out */
+#define EVENT 1000000    /* a loss or a double counts as much as so many microseconds on the way */
+#define CHOICES 128      /* sent frames of which a received one is taken for one */
+#define WINDOW 1024      /* rows among which one of the other end is looked for */
+#define SILENCE 10000000 /* microseconds after which a capture may have stopped */
+
+/* A frame of a view. */
+typedef struct item {
+    const captured *frame;
+    size_t at; /* in the view */
+} item;
+
+/* One sender's frames in a view: equal ones behind each other, those in the order of the capture. */
+typedef struct frames {
+    item *list;
+    size_t count;
+} frames;
+
+/* A received frame, and the sent frames that it may be. */
+typedef struct step {
+    size_t got;              /* in its group */
+    size_t first;            /* of the choices, in its group */
+    size_t count;            /* of the choices */
+    uint8_t before[CHOICES]; /* of each choice, the best choice of the step before */
+} step;
 
 /* The views by the end that made the capture. */
 typedef struct pair {
     view *views[2];
-    int64_t ahead; /* of the host's clock the machine's is ahead, in microseconds */
+    frames frames[2][2]; /* by the end and the sender */
+    int64_t ahead;       /* of the host's clock the machine's is ahead, in microseconds */
+    step *steps;         /* room for one of each frame */
+    int64_t *room;       /* too */
 } pair;
 
 /* A sighting's time by the host's clock. */
@@ -32,65 +54,227 @@ static chart_side other(chart_side side)
     return side == CHART_HOST ? CHART_MACHINE : CHART_HOST;
 }
 
+/* ---- Equal frames ---------------------------------------------------- */
+
+static int compare_frames(const captured *a, const captured *b)
+{
+    if (a->length != b->length)
+        return a->length < b->length ? -1 : 1;
+    const int to = memcmp(a->to, b->to, ADDRESS_LENGTH);
+    return to != 0 ? to : memcmp(a->message, b->message, a->length);
+}
+
+static int compare_items(const void *a, const void *b)
+{
+    const item *one = a, *two = b;
+    const int order = compare_frames(one->frame, two->frame);
+    return order != 0 ? order : (one->at > two->at) - (one->at < two->at);
+}
+
+static bool sort_frames(frames *f, const view *v, chart_side sender)
+{
+    f->list = calloc(v->count + 1, sizeof *f->list);
+    if (f->list == NULL)
+        return false;
+    for (size_t i = 0; i < v->count; i++)
+        if (v->list[i].sender == sender)
+            f->list[f->count++] = (item){v->list[i].frame, i};
+    qsort(f->list, f->count, sizeof *f->list, compare_items);
+    return true;
+}
+
+/* Equal frames of one sender, as the sender's capture and the receiver's have them. */
+typedef struct group {
+    const item *sent;
+    size_t sent_count;
+    const item *got;
+    size_t got_count;
+} group;
+
+static size_t run(const item *from, const item *end, const item *like)
+{
+    size_t count = 0;
+    while (from + count < end && compare_frames(from[count].frame, like->frame) == 0)
+        count++;
+    return count;
+}
+
+/* The group behind this one, or the first if its places are NULL; false if there is none. */
+static bool next_group(const pair *p, chart_side sender, group *g)
+{
+    const frames *sent = &p->frames[sender][sender], *got = &p->frames[other(sender)][sender];
+    const item *sent_end = sent->list + sent->count, *got_end = got->list + got->count;
+    g->sent = g->sent == NULL ? sent->list : g->sent + g->sent_count;
+    g->got = g->got == NULL ? got->list : g->got + g->got_count;
+    if (g->sent == sent_end && g->got == got_end)
+        return false;
+    const bool by_sent = g->got == got_end || (g->sent < sent_end && compare_frames(g->sent->frame, g->got->frame) < 0);
+    const item *like = by_sent ? g->sent : g->got;
+    g->sent_count = run(g->sent, sent_end, like);
+    g->got_count = run(g->got, got_end, like);
+    return true;
+}
+
 /* ---- The clocks ------------------------------------------------------ */
 
-/* A frame with an address that was sent once. */
-static bool is_lonely(const sighting *s)
+/* How well it is known which received frame is which sent one: it stands once in both captures; as often in both; or it
+ * is the nearest by the clocks as they are. */
+enum trust { TRUST_ONCE, TRUST_ALIKE, TRUST_NEAREST, TRUST_NONE };
+
+static int64_t distance(int64_t a, int64_t b)
 {
-    const uint8_t code = s->frame->message[0];
-    return !s->alike && !s->repeated && code != MOP_CODE_REQUEST_PROGRAM && code != MOP_CODE_REQUEST_LOAD &&
-           code != MOP_CODE_REQUEST_DUMP_SERVICE;
+    return a < b ? b - a : a - b;
 }
 
-/* The same frame in the other view, the one that is next in time; NULL if there is none. */
-static const sighting *find_same(const view *v, const sighting *s)
+/* Adds, of one group, what its frames show: the time in the machine's capture less that in the host's. */
+static size_t add_differences(const group *g, chart_side sender, enum trust trust, int64_t *list)
 {
-    const sighting *found = NULL;
-    for (size_t i = 0; i < v->count; i++) {
-        const sighting *at = &v->list[i];
-        if (at->sender == s->sender && is_lonely(at) && view_same(at->frame, s->frame) &&
-            (found == NULL || llabs(at->frame->time - s->frame->time) < llabs(found->frame->time - s->frame->time)))
-            found = at;
+    size_t count = 0, near = 0;
+    if ((trust == TRUST_ONCE && g->sent_count != 1) || (trust != TRUST_NEAREST && g->sent_count != g->got_count))
+        return 0;
+    for (size_t i = 0; i < g->got_count && g->sent_count > 0; i++) {
+        const int64_t got = g->got[i].frame->time;
+        near = trust == TRUST_NEAREST ? near : i;
+        while (trust == TRUST_NEAREST && near + 1 < g->sent_count &&
+               distance(g->sent[near + 1].frame->time, got) <= distance(g->sent[near].frame->time, got))
+            near++;
+        const int64_t sent = g->sent[near].frame->time;
+        list[count++] = sender == CHART_HOST ? got - sent : sent - got;
     }
-    return found;
+    return count;
 }
 
+static int compare_times(const void *a, const void *b)
+{
+    const int64_t one = *(const int64_t *)a, two = *(const int64_t *)b;
+    return (one > two) - (one < two);
+}
+
+/* By how much the machine's clock is ahead, by the frame of one sender that was the least on its way. */
+static enum trust measure(const pair *p, chart_side sender, int64_t *ahead)
+{
+    enum trust trust = TRUST_ONCE;
+    size_t count = 0, at = 0;
+    for (; trust < TRUST_NONE; trust++) {
+        group g = {.sent = NULL};
+        while (next_group(p, sender, &g))
+            count += add_differences(&g, sender, trust, p->room + count);
+        if (count > 0)
+            break;
+    }
+    if (count == 0)
+        return TRUST_NONE;
+    qsort(p->room, count, sizeof *p->room, compare_times);
+    const int64_t middle = p->room[count / 2];
+    for (at = count / 2; sender == CHART_HOST && at > 0 && middle - p->room[at - 1] <= NEAR;)
+        at--;
+    while (sender == CHART_MACHINE && at + 1 < count && p->room[at + 1] - middle <= NEAR)
+        at++;
+    *ahead = p->room[at];
+    return trust;
+}
+
+/* A frame is as long on its way to the one end as to the other, as far as is known. */
 static void compare_clocks(pair *p)
 {
-    const view *machine = p->views[CHART_MACHINE];
-    size_t tries = 0;
-    p->ahead = 0;
-    for (size_t i = 0; i < machine->count && tries < TRIES; i++) {
-        const sighting *s = &machine->list[i];
-        const sighting *same = is_lonely(s) ? find_same(p->views[CHART_HOST], s) : NULL;
-        tries += is_lonely(s);
-        if (same != NULL) {
-            p->ahead = s->frame->time - same->frame->time;
-            p->ahead = llabs(p->ahead) < ONE_CLOCK ? 0 : p->ahead;
-            return;
-        }
-    }
+    int64_t by_host = 0, by_machine = 0;
+    const enum trust host = measure(p, CHART_HOST, &by_host), machine = measure(p, CHART_MACHINE, &by_machine);
+    const bool both = host < TRUST_NEAREST && machine < TRUST_NEAREST && distance(by_host, by_machine) < EVENT;
+    p->ahead = both ? by_machine + (by_host - by_machine) / 2 : host <= machine ? by_host : by_machine;
 }
 
 /* ---- Which is which -------------------------------------------------- */
 
-/* The frame in its sender's view that a received one is: of those with its bytes the nearest in time. */
-static size_t find_sent(const pair *p, const sighting *got, size_t from)
+/* Equal frames come in the order in which they were sent. Of all ways to say which received frame is which sent one that
+ * is taken in which the fewest were lost or came twice, and were the least on their way. */
+
+static int64_t way_of(const pair *p, chart_side sender, const item *sent, const item *got)
 {
-    const chart_side sender = got->sender;
-    const view *v = p->views[sender];
-    const int64_t time = time_at(p, other(sender), got->frame);
-    int64_t least = FAR;
-    size_t found = NOWHERE;
-    for (size_t i = from; i < v->count && i - from < WINDOW; i++) {
-        const sighting *s = &v->list[i];
-        const int64_t away = llabs(time_at(p, sender, s->frame) - time);
-        if (s->sender == sender && away < least && view_same(s->frame, got->frame)) {
-            least = away;
-            found = i;
+    return distance(time_at(p, sender, sent->frame), time_at(p, other(sender), got->frame));
+}
+
+/* The choices of each received frame of a group; how many have any. First, last and near go forwards alone. */
+static size_t make_steps(const pair *p, chart_side sender, const group *g)
+{
+    size_t count = 0, first = 0, last = 0, near = 0;
+    for (size_t i = 0; i < g->got_count && g->sent_count > 0; i++) {
+        const int64_t time = time_at(p, other(sender), g->got[i].frame);
+        while (first < g->sent_count && time_at(p, sender, g->sent[first].frame) < time - FAR)
+            first++;
+        while (last < g->sent_count && time_at(p, sender, g->sent[last].frame) <= time + FAR)
+            last++;
+        while (near + 1 < g->sent_count &&
+               way_of(p, sender, &g->sent[near + 1], &g->got[i]) <= way_of(p, sender, &g->sent[near], &g->got[i]))
+            near++;
+        const size_t from = near > first + CHOICES / 2 ? near - CHOICES / 2 : first;
+        const size_t end = last > from + CHOICES ? from + CHOICES : last;
+        if (from < end)
+            p->steps[count++] = (step){.got = i, .first = from, .count = end - from};
+    }
+    return count;
+}
+
+/* What the best way to each choice of a step counts. */
+typedef struct costs {
+    int64_t list[CHOICES];
+} costs;
+
+/* The best choice of the step before for a choice k: one before it, the best of which is known, or k itself. */
+static void weigh(const step *before, const costs *old, step *s, costs *now)
+{
+    size_t next = 0, best = CHOICES;
+    for (size_t i = 0; i < s->count; i++) {
+        const size_t k = s->first + i;
+        for (; next < before->count && before->first + next < k; next++)
+            if (best == CHOICES || old->list[next] - EVENT * (int64_t)next < old->list[best] - EVENT * (int64_t)best)
+                best = next;
+        const bool again = next < before->count && before->first + next == k; /* it came twice */
+        const int64_t lost =
+            best == CHOICES ? INT64_MAX : old->list[best] + EVENT * (int64_t)(k - before->first - best - 1);
+        const bool take = again && old->list[next] + EVENT < lost;
+        now->list[i] = take ? old->list[next] + EVENT : lost;
+        s->before[i] = (uint8_t)(take ? next : best);
+    }
+}
+
+/* The best way through all steps: its choice of the last one. */
+static size_t walk(const pair *p, chart_side sender, const group *g, size_t count)
+{
+    static costs all[2];
+    size_t best = 0;
+    for (size_t i = 0; i < count; i++) {
+        step *s = &p->steps[i];
+        costs *now = &all[i % 2];
+        for (size_t k = 0; k < s->count && i == 0; k++)
+            now->list[k] = EVENT * (int64_t)(s->first + k);
+        if (i > 0)
+            weigh(s - 1, &all[(i - 1) % 2], s, now);
+        best = 0;
+        for (size_t k = 0; k < s->count; k++) {
+            now->list[k] += way_of(p, sender, &g->sent[s->first + k], &g->got[s->got]);
+            if (now->list[k] - EVENT * (int64_t)k < now->list[best] - EVENT * (int64_t)best)
+                best = k;
         }
     }
-    return found;
+    return best;
+}
+
+/* Finds the partners of one sender's frames. */
+static void match(pair *p, chart_side sender)
+{
+    const view *from = p->views[sender], *to = p->views[other(sender)];
+    group g = {.sent = NULL};
+    while (next_group(p, sender, &g)) {
+        const size_t count = make_steps(p, sender, &g);
+        size_t choice = walk(p, sender, &g, count);
+        for (size_t i = count; i > 0; i--) {
+            const step *s = &p->steps[i - 1];
+            const size_t sent = g.sent[s->first + choice].at, got = g.got[s->got].at;
+            to->list[got].partner = sent;
+            from->list[sent].partner = got; /* in the end, the first that came */
+            choice = s->before[choice];
+        }
+    }
 }
 
 static void forget(view *v)
@@ -99,52 +283,82 @@ static void forget(view *v)
         v->list[i].partner = NOWHERE;
 }
 
-/* What speaks against a partner: there is none, or by one clock it came before it was sent. */
-static uint64_t doubt_of(const pair *p, const sighting *got)
+/* Whether an end's capture was being taken at a time, as far as can be known. */
+static bool is_taken(const pair *p, chart_side end, int64_t time)
 {
-    if (got->partner == NOWHERE)
-        return STRANGER;
-    const sighting *sent = &p->views[got->sender]->list[got->partner];
-    return p->ahead == 0 && got->frame->time < sent->frame->time ? 1 : 0;
-}
-
-/* Finds the partners of one sender's frames; the line keeps their order. What speaks against them all. */
-static uint64_t match(pair *p, chart_side sender)
-{
-    view *got = p->views[other(sender)], *sent = p->views[sender];
-    uint64_t doubt = 0;
-    size_t from = 0;
-    for (size_t i = 0; i < got->count; i++) {
-        sighting *s = &got->list[i];
-        if (s->sender != sender)
-            continue;
-        s->partner = find_sent(p, s, from);
-        doubt += doubt_of(p, s);
-        if (s->partner == NOWHERE)
-            continue;
-        from = s->partner;
-        if (sent->list[from].partner == NOWHERE)
-            sent->list[from].partner = i;
+    const view *v = p->views[end];
+    size_t from = 0, to = v->count;
+    while (from < to) {
+        const size_t middle = (from + to) / 2;
+        if (time_at(p, end, v->list[middle].frame) < time)
+            from = middle + 1;
+        else
+            to = middle;
     }
-    return doubt;
+    return from > 0 && from < v->count && time - time_at(p, end, v->list[from - 1].frame) <= SILENCE &&
+           time_at(p, end, v->list[from].frame) - time <= SILENCE;
 }
 
-static uint64_t match_both(pair *p)
+/* The frames that came and that the sender's capture lacks, although it was being taken. */
+static size_t strangers(const pair *p, chart_side end)
+{
+    const view *v = p->views[end];
+    size_t count = 0;
+    for (size_t i = 0; i < v->count; i++) {
+        const sighting *s = &v->list[i];
+        count += s->sender != end && s->partner == NOWHERE && is_taken(p, s->sender, time_at(p, end, s->frame));
+    }
+    return count;
+}
+
+static size_t match_both(pair *p)
 {
     forget(p->views[CHART_HOST]);
     forget(p->views[CHART_MACHINE]);
     compare_clocks(p);
-    return match(p, CHART_HOST) + match(p, CHART_MACHINE);
+    match(p, CHART_HOST);
+    match(p, CHART_MACHINE);
+    return strangers(p, CHART_HOST) + strangers(p, CHART_MACHINE);
 }
 
-/* Which capture is the host's: less speaks against it. */
-static void pair_views(pair *p, view *one, view *two)
+static void turn(pair *p)
 {
-    *p = (pair){{one, two}, 0};
-    pair reverse = {{two, one}, 0};
-    if (match_both(p) > match_both(&reverse))
-        *p = reverse;
-    match_both(p);
+    const pair old = *p;
+    for (int end = 0; end < 2; end++) {
+        p->views[end] = old.views[1 - end];
+        memcpy(p->frames[end], old.frames[1 - end], sizeof p->frames[end]);
+    }
+}
+
+/* Which capture is the host's: the first, unless it has more frames that nobody sent then. */
+static void pair_views(pair *p)
+{
+    const size_t as_given = match_both(p);
+    turn(p);
+    if (as_given == 0 || match_both(p) >= as_given) {
+        turn(p);
+        match_both(p);
+    }
+}
+
+static void pair_free(pair *p)
+{
+    for (int i = 0; i < 4; i++)
+        free(p->frames[i / 2][i % 2].list);
+    free(p->steps);
+    free(p->room);
+}
+
+static int pair_make(pair *p, view *one, view *two)
+{
+    const size_t most = (one->count > two->count ? one->count : two->count) + 1;
+    *p = (pair){.views = {one, two}, .steps = calloc(most, sizeof *p->steps), .room = calloc(most, sizeof *p->room)};
+    bool good = p->steps != NULL && p->room != NULL;
+    for (int i = 0; i < 4 && good; i++)
+        good = sort_frames(&p->frames[i / 2][i % 2], p->views[i / 2], (chart_side)(i % 2));
+    if (good)
+        pair_views(p);
+    return good ? 0 : complain(STATUS_OTHER, "no memory for the picture");
 }
 
 static bool have_common(const view *v)
@@ -286,6 +500,17 @@ static void say_outcome(const pair *p, char end[CHART_TEXT])
         memcpy(end, text, CHART_TEXT); /* it has begun something new */
 }
 
+/* As much as the figures show of it. */
+static void say_clocks(const pair *p, char text[CHART_TEXT])
+{
+    const int64_t tenths = llabs(p->ahead) / 100;
+    if (tenths > 0)
+        snprintf(text, CHART_TEXT,
+            "The clock of the machine's capture is %" PRId64 ".%" PRId64
+            " milliseconds %s the host's, as the frames show that stand in both; its times are set to the host's here.",
+            tenths / 10, tenths % 10, p->ahead > 0 ? "ahead of" : "behind");
+}
+
 static void say_end(const pair *p, chart *c)
 {
     say_outcome(p, c->end);
@@ -298,27 +523,31 @@ static void say_end(const pair *p, chart *c)
         "known",
         SILENCE / 1000000);
     snprintf(c->notes[0], CHART_TEXT, "The figures at the margins are seconds since the first frame.");
-    if (p->ahead != 0)
-        snprintf(c->notes[1], CHART_TEXT,
-            "The clock of the machine's capture is %" PRId64
-            " milliseconds ahead of the host's; its times are set to the "
-            "host's here.",
-            p->ahead / 1000);
+    say_clocks(p, c->notes[1]);
+}
+
+static int draw(const pair *p, chart *c)
+{
+    const size_t frames = p->views[CHART_HOST]->count + p->views[CHART_MACHINE]->count;
+    if (!have_common(p->views[CHART_HOST]))
+        return complain(STATUS_FILE, "no frame stands in both captures: they are not of one session");
+    int status = chart_room(c, frames, frames);
+    if (status != 0)
+        return status;
+    add_rows(p, c);
+    set_times(c);
+    add_arrows(p, c, CHART_HOST);
+    add_arrows(p, c, CHART_MACHINE);
+    say_end(p, c);
+    return 0;
 }
 
 int beside_chart(view *one, view *two, chart *c)
 {
     pair p;
-    pair_views(&p, one, two);
-    if (!have_common(one))
-        return complain(STATUS_FILE, "no frame stands in both captures: they are not of one session");
-    int status = chart_room(c, one->count + two->count, one->count + two->count);
-    if (status != 0)
-        return status;
-    add_rows(&p, c);
-    set_times(c);
-    add_arrows(&p, c, CHART_HOST);
-    add_arrows(&p, c, CHART_MACHINE);
-    say_end(&p, c);
-    return 0;
+    int status = pair_make(&p, one, two);
+    if (status == 0)
+        status = draw(&p, c);
+    pair_free(&p);
+    return status;
 }

@@ -7,6 +7,7 @@
 
 #include "label.h"
 #include "mop.h"
+#include "options.h"
 #include "words.h"
 
 /* ---- Who they are ---------------------------------------------------- */
@@ -23,6 +24,13 @@ static bool is_of_machine(uint8_t code)
            code == MOP_CODE_DUMP_DATA;
 }
 
+/* A code by which a host loads a machine or dumps it; by another it may just volunteer. */
+static bool is_of_server(uint8_t code)
+{
+    return code == MOP_CODE_LOAD_TRANSFER || code == MOP_CODE_LOAD || code == MOP_CODE_REQUEST_DUMP ||
+           code == MOP_CODE_PARAMETERS;
+}
+
 static bool is_multicast(const uint8_t *address)
 {
     return (address[0] & 1) != 0;
@@ -33,11 +41,12 @@ static bool is_at(const uint8_t *address, const uint8_t *named)
     return named == NULL || memcmp(address, named, ADDRESS_LENGTH) == 0;
 }
 
-static bool find_served(const capture *c, const uint8_t *machine, view_ends *ends)
+/* The first host whose code is of a kind. */
+static bool find_host(const capture *c, const uint8_t *machine, bool (*is_kind)(uint8_t code), view_ends *ends)
 {
     for (size_t i = 0; i < c->count; i++) {
         const captured *m = &c->list[i];
-        if (is_of_host(m->message[0]) && !is_multicast(m->to) && is_at(m->to, machine)) {
+        if (is_kind(m->message[0]) && !is_multicast(m->to) && is_at(m->to, machine)) {
             memcpy(ends->host, m->from, ADDRESS_LENGTH);
             memcpy(ends->machine, m->to, ADDRESS_LENGTH);
             ends->has_host = true;
@@ -62,7 +71,8 @@ static bool find_asking(const capture *c, const uint8_t *machine, view_ends *end
 
 bool view_find(const capture *c, const uint8_t *machine, view_ends *ends)
 {
-    return find_served(c, machine, ends) || find_asking(c, machine, ends);
+    return find_host(c, machine, is_of_server, ends) || find_host(c, machine, is_of_host, ends) ||
+           find_asking(c, machine, ends);
 }
 
 /* ---- Their frames ---------------------------------------------------- */
@@ -88,6 +98,17 @@ static bool is_between(const captured *m, const view_ends *e, chart_side *sender
     return e->has_host && is_at(m->from, e->host) && (is_multicast(m->to) || is_at(m->to, e->machine));
 }
 
+/* Another host that loads or dumps the machine, or NULL. */
+static const uint8_t *find_rival(const capture *c, const view_ends *e)
+{
+    for (size_t i = 0; i < c->count; i++) {
+        const captured *m = &c->list[i];
+        if (is_of_server(m->message[0]) && is_at(m->to, e->machine) && !is_at(m->from, e->host))
+            return m->from;
+    }
+    return NULL;
+}
+
 int view_make(view *v, const capture *c, const view_ends *ends)
 {
     sighting *last[2] = {NULL, NULL};
@@ -95,6 +116,7 @@ int view_make(view *v, const capture *c, const view_ends *ends)
     *v = (view){.capture = c, .list = calloc(c->count + 1, sizeof *v->list)};
     if (v->list == NULL)
         return complain(STATUS_OTHER, "no memory for the picture");
+    v->rival = ends->has_host ? find_rival(c, ends) : NULL;
     for (size_t i = 0; i < c->count; i++) {
         sighting *s = &v->list[v->count];
         if (!is_between(&c->list[i], ends, &sender))
@@ -126,6 +148,8 @@ typedef struct outcome {
     uint8_t error;
     bool complete;  /* dump complete came last */
     uint8_t begins; /* behind all that the machine asks for a program or offers a dump: that code, or 0 */
+    bool several;   /* a session was over before */
+    bool rival;     /* another host loads or dumps the machine too */
 } outcome;
 
 static mop_fields read_any(const captured *m)
@@ -158,13 +182,22 @@ static bool is_new(const outcome *o, const sighting *s, const mop_fields *f)
            !view_same(o->asked->frame, s->frame);
 }
 
+/* Whether the host's last frame was the last of a session, and is answered. */
+static bool is_over(const outcome *o)
+{
+    return o->complete || (o->answered && o->fields.code != MOP_CODE_LOAD && o->fields.code != MOP_CODE_REQUEST_DUMP);
+}
+
 static void take_host(outcome *o, const sighting *s, const mop_fields *f)
 {
     if (f->code == MOP_CODE_DUMP_COMPLETE && o->fields.code == MOP_CODE_REQUEST_DUMP) {
         o->complete = true;
         o->begins = 0; /* it offers in the middle of a dump too */
     } else if (wants_answer(f) && is_new(o, s, f)) {
-        *o = (outcome){.asked = s, .fields = *f};
+        *o = (outcome){.asked = s,
+            .fields = *f,
+            .several = o->several || (o->begins != 0 && is_over(o)),
+            .rival = o->rival};
     }
 }
 
@@ -181,29 +214,29 @@ static void take_machine(outcome *o, const sighting *s, const mop_fields *f)
     }
 }
 
-static bool say_load(const outcome *o, const char *name, char text[CHART_TEXT])
+static void say_load(const outcome *o, const char *name, char text[CHART_TEXT])
 {
-    const bool last = o->fields.code != MOP_CODE_LOAD;
+    const uint32_t start = o->fields.transfer;
     if (o->answered && o->error != 0)
         snprintf(text, CHART_TEXT, "Rejected: the machine answered %s with error %d.", name, o->error);
-    else if (!last)
-        snprintf(text, CHART_TEXT, "Not over: %s %s, and no frame that says where to start follows in the capture.",
+    else if (o->fields.code == MOP_CODE_LOAD)
+        snprintf(text, CHART_TEXT, "Not over: %s %s, and no frame that says where to start follows between these two.",
             name, o->answered ? "is confirmed" : "is not answered");
     else if (o->answered && o->begins != 0)
         snprintf(text, CHART_TEXT, "Not over: the machine answered %s without an error.", name);
     else if (o->answered)
-        snprintf(text, CHART_TEXT,
-            "Finished, as far as the frames show: the machine answered the last one, %s, without an error. That one "
-            "says "
-            "to start at 0x%08" PRIX32 ".",
-            name, o->fields.transfer);
+        snprintf(text, CHART_TEXT, "%she machine answered the last one, %s, without an error. %s 0x%08" PRIX32 ".",
+            o->rival ? "T" : "Finished, as far as the frames show: t", name, "That one says to start at", start);
     else
-        snprintf(text, CHART_TEXT,
-            "Not confirmed: no answer to the last frame, %s, stands in the capture. Whether the machine took it, and "
-            "was "
-            "started at 0x%08" PRIX32 ", it does not show.",
-            name, o->fields.transfer);
-    return last && o->answered && o->error == 0 && o->begins == 0;
+        snprintf(text, CHART_TEXT, "Not confirmed: no answer to the last frame, %s, stands in the capture. %s 0x%08" PRIX32
+            ", it does not show.", name, "Whether the machine took it, and was started at", start);
+}
+
+/* Ends a load, is answered without an error, and nothing new begins. */
+static bool is_confirmed(const outcome *o)
+{
+    return o->asked != NULL && o->fields.code != MOP_CODE_REQUEST_DUMP && o->fields.code != MOP_CODE_LOAD &&
+           o->answered && o->error == 0 && o->begins == 0 && !o->rival;
 }
 
 static void say_dump(const outcome *o, char text[CHART_TEXT])
@@ -211,7 +244,7 @@ static void say_dump(const outcome *o, char text[CHART_TEXT])
     snprintf(text, CHART_TEXT, "%s: the last request, for %d byte%s at 0x%08" PRIX32 ", is %s%s.",
         o->complete ? "The host ended the dump" : "Not over", o->fields.count, o->fields.count == 1 ? "" : "s",
         o->fields.address, o->answered ? "answered" : "not answered",
-        o->complete ? "" : ", and no dump complete stands in the capture");
+        o->complete ? "" : ", and no dump complete follows between these two");
 }
 
 static void say_begins(const outcome *o, char text[CHART_TEXT])
@@ -219,13 +252,24 @@ static void say_begins(const outcome *o, char text[CHART_TEXT])
     const size_t length = strlen(text);
     if (o->begins != 0)
         snprintf(text + length, CHART_TEXT - length,
-            " Behind that the machine %s, and no load and no request for a dump follows in the capture.",
+            " Behind that the machine %s, and no load and no request for a dump follows between these two.",
             o->begins == MOP_CODE_REQUEST_PROGRAM ? "requests a program" : "offers a dump");
 }
 
-view_outcome view_end(const view *v, char text[CHART_TEXT])
+static void say_rival(const uint8_t *rival, char text[CHART_TEXT])
 {
-    outcome o = {.asked = NULL};
+    char address[ADDRESS_TEXT];
+    const size_t length = strlen(text);
+    if (rival == NULL)
+        return;
+    address_text(rival, address);
+    snprintf(text + length, CHART_TEXT - length,
+        " Another station, %s, sends this machine loads or requests for dumps too: they are not drawn.", address);
+}
+
+static outcome follow(const view *v)
+{
+    outcome o = {.asked = NULL, .rival = v->rival != NULL};
     for (size_t i = 0; i < v->count; i++) {
         const sighting *s = &v->list[i];
         const mop_fields f = read_any(s->frame);
@@ -234,13 +278,19 @@ view_outcome view_end(const view *v, char text[CHART_TEXT])
         else if (f.refusal == MOP_ACCEPTED)
             take_host(&o, s, &f);
     }
-    view_outcome end = {o.asked, o.answered, false};
+    return o;
+}
+
+view_outcome view_end(const view *v, char text[CHART_TEXT])
+{
+    const outcome o = follow(v);
     if (o.asked == NULL)
-        snprintf(text, CHART_TEXT, "No host sends a load, or asks for a dump, in the capture.");
+        snprintf(text, CHART_TEXT, "No host sends this machine a load, or asks it for a dump, in the capture.");
     else if (o.fields.code != MOP_CODE_REQUEST_DUMP)
-        end.confirmed = say_load(&o, label_of(o.asked->frame->message, o.asked->frame->length).name, text);
+        say_load(&o, label_of(o.asked->frame->message, o.asked->frame->length).name, text);
     else
         say_dump(&o, text);
     say_begins(&o, text);
-    return end;
+    say_rival(v->rival, text);
+    return (view_outcome){o.asked, o.answered, is_confirmed(&o), o.several};
 }

@@ -32,10 +32,11 @@ typedef struct view {
     const capture *capture;
     sighting *list;
     size_t count;
+    const uint8_t *rival; /* the address of another host that loads or dumps the machine, or NULL */
 } view;
 
-/* The ends of the session: the named machine, or the first that a host sends something, or else the first that asks.
- * False if there is none. */
+/* The ends of the session: the named machine, or the first that a host loads or dumps, or else the first that one sends
+ * something, or else the first that asks. False if there is none. */
 bool view_find(const capture *c, const uint8_t *machine, view_ends *ends);
 
 /* The frames between them: 0, or an exit status with the reason said. */
@@ -54,6 +55,7 @@ typedef struct view_outcome {
         *asked; /* the host's last frame that wants an answer, where it first stands; NULL if there is none */
     bool answered;
     bool confirmed; /* it ends a load, is answered without an error, and the machine begins nothing new behind it */
+    bool several;   /* it is not of the first session that they show */
 } view_outcome;
 
 /* What the frames show of the end; the text says it in sentences that claim no more. */
