@@ -484,20 +484,22 @@ static bool is_of_last(const pair *p, const sighting *got, const sighting *last)
     return got != NULL && last != NULL && got->partner != NOWHERE && &p->views[CHART_HOST]->list[got->partner] >= last;
 }
 
-/* By the host's capture, and what the machine's shows beyond. */
-static void say_outcome(const pair *p, char end[CHART_TEXT])
+/* By the host's capture, and what the machine's shows beyond. Whether there were several sessions. */
+static bool say_outcome(const pair *p, char end[CHART_TEXT])
 {
     char text[CHART_TEXT];
     const view_outcome host = view_end(p->views[CHART_HOST], end);
     const view_outcome machine = view_end(p->views[CHART_MACHINE], text);
     const size_t length = strlen(end);
+    const bool several = host.several || machine.several;
     if (!is_of_last(p, machine.asked, host.asked))
-        return;
+        return several;
     if (!host.answered && machine.confirmed)
         snprintf(end + length, CHART_TEXT - length,
             " The machine's capture has its answer, without an error, which did not come to the host.");
     else if (host.confirmed && machine.answered && !machine.confirmed)
         memcpy(end, text, CHART_TEXT); /* it has begun something new */
+    return several;
 }
 
 /* As much as the figures show of it. */
@@ -513,8 +515,8 @@ static void say_clocks(const pair *p, char text[CHART_TEXT])
 
 static void say_end(const pair *p, chart *c)
 {
-    say_outcome(p, c->end);
-    snprintf(c->title, CHART_TEXT, "A session, from the captures of both ends");
+    const bool several = say_outcome(p, c->end);
+    snprintf(c->title, CHART_TEXT, "%s, from the captures of both ends", several ? "Sessions" : "A session");
     snprintf(c->again, CHART_TEXT, "sent again: it or its answer was lost or late, or what it answers came again");
     snprintf(c->lost, CHART_TEXT, "lost: it stands in its sender's capture alone");
     snprintf(c->twice, CHART_TEXT, "it stands once more in the receiver's capture than in the sender's");

@@ -166,12 +166,14 @@ static void draw_arrows(FILE *out, const plan *p)
 
 #define TIME_TEXT 40
 
-/* The row's time in seconds; nothing if it has none. */
+/* The row's time in seconds; nothing if it has none. One may be before the first. */
 static void time_words(const chart_row *row, char text[TIME_TEXT])
 {
+    const int64_t time = row->time == CHART_UNTIMED ? 0 : llabs(row->time);
     text[0] = '\0';
-    if (row->time >= 0)
-        snprintf(text, TIME_TEXT, "%" PRId64 ".%04" PRId64, row->time / 1000000, row->time % 1000000 / 100);
+    if (row->time != CHART_UNTIMED)
+        snprintf(text, TIME_TEXT, "%s%" PRId64 ".%04" PRId64, row->time <= -100 ? "-" : "", time / 1000000,
+            time % 1000000 / 100);
 }
 
 static int detail_lines(const char *text)
@@ -179,21 +181,32 @@ static int detail_lines(const char *text)
     return svg_lines(NULL, (svg_point){0, 0}, SVG_SMALL, SVG_FROM, SIDE_WIDTH, text);
 }
 
-/* The frame's name and marks, beside which the time stands, and what it says; or what happened, in two lines. */
+/* The frame's name and its marks: a name that is too long is shortened, the marks are not. */
+static void name_of(const chart_row *row, const char *name, int width, char text[LABEL_TEXT])
+{
+    char marks[60];
+    snprintf(marks, sizeof marks, "%s%s", (row->marks & CHART_TO_ALL) != 0 ? " to all hosts" : "",
+        (row->marks & CHART_AT_ONCE) != 0 ? ", again at once"
+        : (row->marks & CHART_AGAIN) != 0 ? ", again"
+                                          : "");
+    snprintf(text, LABEL_TEXT, "%.80s", name);
+    svg_shorten(text, SVG_STRONG, width - svg_width(SVG_STRONG, marks, strlen(marks)));
+    strcat(text, marks);
+}
+
+/* What stands beside a row: the frame's name, beside which the time stands, and what it says; or what happened, in two
+ * lines. */
 static label words_of(const chart_row *row, const char *when)
 {
     label l = {"", ""}, frame = {"", ""};
-    const char *to_all = (row->marks & CHART_TO_ALL) != 0 ? " to all hosts" : "";
-    const char *again = (row->marks & CHART_AGAIN) != 0 ? ", again" : "";
     const int words = row->words_length < LABEL_TEXT ? (int)row->words_length : LABEL_TEXT - 1;
     if (row->frame != NULL)
         frame = label_of(row->frame, row->length);
-    snprintf(l.name, sizeof l.name, "%.60s%s%s", frame.name, to_all, again);
+    name_of(row, frame.name, SIDE_WIDTH - BESIDE - svg_width(SVG_FIGURES, when, strlen(when)), l.name);
     if (row->words != NULL)
         snprintf(l.detail, sizeof l.detail, "%.*s", words, row->words);
     else
         memcpy(l.detail, frame.detail, sizeof l.detail);
-    svg_shorten(l.name, SVG_STRONG, SIDE_WIDTH - BESIDE - svg_width(SVG_FIGURES, when, strlen(when)));
     for (int width = 2 * SIDE_WIDTH; detail_lines(l.detail) > (row->frame != NULL ? 1 : 2); width -= BESIDE)
         svg_shorten(l.detail, SVG_SMALL, width);
     return l;
@@ -228,28 +241,63 @@ static void draw_rows(FILE *out, const plan *p)
             draw_row(out, p, i);
 }
 
-/* The frames that were sent in the rows that are left out. */
-static size_t frames_left_out(const plan *p)
+/* What is left out with the rows. */
+typedef struct gap {
+    size_t frames;
+    size_t ways[CHART_UNSENT + 1];
+    size_t again;
+    size_t at_once;
+} gap;
+
+static gap gap_of(const plan *p)
 {
-    size_t count = 0;
-    for (size_t i = p->cut; i < p->resume; i++)
-        count += p->chart->rows[i].frame != NULL;
-    return count;
+    gap g = {.frames = 0};
+    for (size_t i = p->cut; i < p->resume; i++) {
+        const chart_row *row = &p->chart->rows[i];
+        g.frames += row->frame != NULL;
+        g.again += (row->marks & CHART_AGAIN) != 0;
+        g.at_once += (row->marks & CHART_AT_ONCE) != 0;
+    }
+    for (size_t i = 0; i < p->chart->arrows_count; i++)
+        g.ways[p->chart->arrows[i].way] += !is_visible(p, &p->chart->arrows[i]);
+    return g;
+}
+
+/* Of those left out, how many were lost, and so on; nothing if there are none. */
+static void say_gap(const gap *g, char text[CHART_TEXT])
+{
+    const struct {
+        const char *name;
+        size_t count;
+    } list[] = {{"lost", g->ways[CHART_LOST]}, {"came twice", g->ways[CHART_DOUBLE]},
+        {"not known to have come", g->ways[CHART_UNKNOWN]}, {"not known to be sent", g->ways[CHART_UNSENT]},
+        {"sent again", g->again}, {"again at once", g->at_once}};
+    size_t length = 0;
+    text[0] = '\0';
+    for (size_t i = 0; i < sizeof list / sizeof list[0]; i++)
+        if (list[i].count > 0)
+            length += (size_t)snprintf(text + length, CHART_TEXT - length, "%s%s: %zu", length == 0 ? "of them " : ", ",
+                list[i].name, list[i].count);
 }
 
 static void draw_gap(FILE *out, const plan *p)
 {
-    char text[CHART_TEXT];
+    char text[CHART_TEXT], more[CHART_TEXT];
     const int middle = ROWS_TOP + (int)p->cut * ROW_HEIGHT + GAP_HEIGHT / 2 - ROW_HEIGHT / 2;
     if (p->resume == p->cut)
         return;
-    const size_t rows = p->resume - p->cut, frames = frames_left_out(p);
-    if (rows == frames)
-        snprintf(text, sizeof text, "%zu frames are left out here (--rows)", frames);
+    const gap g = gap_of(p);
+    const size_t rows = p->resume - p->cut;
+    if (rows == g.frames)
+        snprintf(text, sizeof text, "%zu frames are left out here (--rows)", g.frames);
     else
-        snprintf(text, sizeof text, "%zu rows, of them %zu frames, are left out here (--rows)", rows, frames);
-    svg_box(out, (svg_point){0, middle - 16}, SVG_WIDTH, 32, SVG_PALE);
-    svg_text(out, (svg_point){SVG_WIDTH / 2, middle + 5}, SVG_PLAIN, SVG_MIDDLE, text);
+        snprintf(text, sizeof text, "%zu rows, of them %zu frames, are left out here (--rows)", rows, g.frames);
+    say_gap(&g, more);
+    const int half = more[0] == '\0' ? 16 : 22;
+    svg_box(out, (svg_point){0, middle - half}, SVG_WIDTH, 2 * half, SVG_PALE);
+    svg_text(out, (svg_point){SVG_WIDTH / 2, middle + 21 - half}, SVG_PLAIN, SVG_MIDDLE, text);
+    if (more[0] != '\0')
+        svg_text(out, (svg_point){SVG_WIDTH / 2, middle + 15}, SVG_SMALL, SVG_MIDDLE, more);
 }
 
 /* ---- Above and below ------------------------------------------------- */
@@ -303,6 +351,11 @@ static int draw_legend(FILE *out, const plan *p, int y)
     if ((p->marks & CHART_AGAIN) != 0) {
         svg_text(out, (svg_point){MARGIN + 24, y}, SVG_STRONG, SVG_FROM, "again");
         svg_text(out, (svg_point){words.x, y}, SVG_SMALL, SVG_FROM, p->chart->again);
+        y += LEGEND_HEIGHT;
+    }
+    if ((p->marks & CHART_AT_ONCE) != 0) {
+        svg_text(out, (svg_point){MARGIN + 24, y}, SVG_STRONG, SVG_FROM, "at once");
+        svg_text(out, (svg_point){words.x, y}, SVG_SMALL, SVG_FROM, p->chart->at_once);
         y += LEGEND_HEIGHT;
     }
     return y;

@@ -16,7 +16,8 @@ typedef enum chart_side { CHART_HOST, CHART_MACHINE } chart_side;
 enum chart_mark {
     CHART_AGAIN = 1,  /* its frame was sent before */
     CHART_TO_ALL = 2, /* its frame is for all hosts */
-    CHART_TIMER = 4   /* a timer ran out */
+    CHART_TIMER = 4,  /* a timer ran out */
+    CHART_AT_ONCE = 8 /* its frame stands right behind one like it */
 };
 
 /* A thing that happened. What is pointed to stays where it is as long as the chart. */
@@ -29,7 +30,7 @@ typedef struct chart_row {
     chart_side side;
     uint8_t marks; /* CHART_.. */
 } chart_row;
-#define CHART_UNTIMED (-1)
+#define CHART_UNTIMED INT64_MIN
 
 typedef enum chart_way {
     CHART_CAME,    /* to the other end */
@@ -60,6 +61,7 @@ typedef struct chart {
     char end[CHART_TEXT];                /* how it ended */
     char notes[CHART_NOTES][CHART_TEXT]; /* what else must be known; empty ones are not drawn */
     char again[CHART_TEXT];              /* what it means that a frame was sent again */
+    char at_once[CHART_TEXT];            /* that it stands right behind one like it */
     char lost[CHART_TEXT];               /* that one was lost */
     char twice[CHART_TEXT];              /* that one came twice */
     char unknown[CHART_TEXT];            /* what is known of a frame of which it is not known whether it came */

@@ -61,8 +61,9 @@ static void each_place(map *m, place_use use)
     uint64_t end = m->low;
     for (uint32_t i = 0; i < m->image.regions; i++) {
         const image_entry e = region(m, i);
-        if (e.address > end)
-            use(m, (place){end, e.address - end, 0});
+        const uint64_t until = e.address < m->high ? e.address : m->high; /* a gap ends with the memory */
+        if (until > end)
+            use(m, (place){end, until - end, 0});
         use(m, (place){e.address, e.length, i + 1});
         end = e.address + e.length;
     }
@@ -115,7 +116,7 @@ static void draw_bounds(const map *m)
     svg_text(m->out, (svg_point){middle, TOP + m->height + 16}, SVG_FIGURES, SVG_MIDDLE, text);
 }
 
-/* Where the machine is started, if that is on the map. */
+/* Where the image says to start, if that is on the map. */
 static void draw_transfer(const map *m)
 {
     char text[TEXT];
@@ -124,7 +125,7 @@ static void draw_transfer(const map *m)
     if (transfer < m->low || transfer >= m->high)
         return;
     svg_arrow(m->out, (svg_point){MAP_X - 50, y}, (svg_point){MAP_X - 2, y}, SVG_SOLID, SVG_BLACK);
-    svg_text(m->out, (svg_point){MAP_X - 56, y - 2}, SVG_STRONG, SVG_UNTIL, "started at");
+    svg_text(m->out, (svg_point){MAP_X - 56, y - 2}, SVG_STRONG, SVG_UNTIL, "start at");
     address_words(text, transfer);
     svg_text(m->out, (svg_point){MAP_X - 56, y + 12}, SVG_FIGURES, SVG_UNTIL, text);
 }
@@ -210,7 +211,7 @@ static void say(const map *m, bool has_memory, char text[TEXT])
             ".",
             m->high, beyond);
     address_words(transfer, m->image.transfer);
-    snprintf(text, TEXT, "%" PRIu64 " bytes to load, regions: %" PRIu32 ". The machine is started at %.40s, %s.%s",
+    snprintf(text, TEXT, "%" PRIu64 " bytes to load, regions: %" PRIu32 ". The image says to start at %.40s, %s.%s",
         bytes_of(m), m->image.regions, transfer, where, more);
 }
 

@@ -1,20 +1,33 @@
 #include "seen.h"
 
 #include <stdio.h>
+#include <stdlib.h>
 
 #include "beside.h"
+#include "mop.h"
 #include "options.h"
 #include "view.h"
 #include "words.h"
 
-#define AT_ONCE 10000 /* microseconds: no timer is as short */
+#define AT_ONCE 10000 /* microseconds */
 
-/* Whether a frame came twice: it stands right behind itself, and is not the answer to a frame that does so too. */
-static bool came_twice(const view *v, size_t i)
+/* Whether a frame stands right behind one like it: sent again at once, or doubled on the way. */
+static bool is_at_once(const sighting *s)
 {
-    const sighting *s = &v->list[i];
-    return s->next && s->frame->time - s[-1].frame->time <= AT_ONCE &&
-           !(i >= 2 && s[-2].next && s[-2].sender != s->sender);
+    return s->next && llabs(s->frame->time - s[-1].frame->time) <= AT_ONCE;
+}
+
+static void say_one(const view *v, chart *c)
+{
+    const bool several = view_end(v, c->end).several;
+    snprintf(c->title, CHART_TEXT, "%s, from the capture of one end", several ? "Sessions" : "A session");
+    snprintf(c->again, CHART_TEXT, "sent again: it or its answer was lost or late, or what it answers came again");
+    snprintf(c->at_once, CHART_TEXT,
+        "the same frame stands right before it, at most %d milliseconds earlier: sent again, or doubled on the way",
+        AT_ONCE / 1000);
+    snprintf(c->notes[0], CHART_TEXT,
+        "Whether a frame reached the other end one capture does not tell, nor whether one was doubled on the way: "
+        "each is drawn as one that came. The figures at the margins are seconds since the first frame.");
 }
 
 /* One capture: every frame in a row of its own. */
@@ -23,22 +36,16 @@ static int one_chart(const view *v, chart *c)
     int status = chart_room(c, v->count, v->count);
     for (size_t i = 0; i < v->count && status == 0; i++) {
         const sighting *s = &v->list[i];
-        const bool twice = came_twice(v, i);
         chart_row *row = chart_add(c, s->sender);
         row->frame = s->frame->message;
         row->length = s->frame->length;
         row->time = s->frame->time - v->list[0].frame->time;
-        row->marks = (uint8_t)(view_marks(s) & (twice ? ~CHART_AGAIN : ~0));
-        chart_send(c, s->sender, (int32_t)(4 * i) - 1, (int32_t)(4 * i) + 1, twice ? CHART_DOUBLE : CHART_CAME);
+        row->marks = view_marks(s);
+        if (is_at_once(s))
+            row->marks = (uint8_t)((row->marks & ~CHART_AGAIN) | CHART_AT_ONCE);
+        chart_send(c, s->sender, (int32_t)(4 * i) - 1, (int32_t)(4 * i) + 1, CHART_CAME);
     }
-    view_end(v, c->end);
-    snprintf(c->title, CHART_TEXT, "A session, from the capture of one end");
-    snprintf(c->again, CHART_TEXT, "sent again: it or its answer was lost or late, or what it answers came again");
-    snprintf(c->notes[0], CHART_TEXT,
-        "Whether a frame reached the other end one capture does not tell: each is drawn as one that came. The figures "
-        "at "
-        "the margins are seconds since the first frame.");
-    snprintf(c->twice, CHART_TEXT, "the same frame stands in the capture right behind, within 10 milliseconds");
+    say_one(v, c);
     return status;
 }
 
@@ -76,13 +83,30 @@ static int draw(const seen_settings *settings, const view_ends *ends, view views
     return 0;
 }
 
+static bool has_loops(const capture *c)
+{
+    for (size_t i = 0; i < c->count; i++)
+        if (c->list[i].message[0] == MOP_CODE_LOOP || c->list[i].message[0] == MOP_CODE_LOOPED)
+            return true;
+    return false;
+}
+
+static int nothing(const seen_settings *settings)
+{
+    if (settings->machine != NULL)
+        return complain(STATUS_FILE, "the capture has no frame of that machine: nothing can be drawn");
+    return complain(STATUS_FILE, "the capture has no frame of a machine that asks or is served%s: nothing can be drawn",
+        has_loops(settings->capture) ? ", but loop messages (moploop), of which there are no pictures" : "");
+}
+
 int seen_chart(const seen_settings *settings, chart *c)
 {
     view views[2] = {{.list = NULL}, {.list = NULL}};
-    view_ends ends;
+    view_ends ends, more;
     if (!view_find(settings->capture, settings->machine, &ends))
-        return complain(STATUS_FILE, "the capture has no frame of %s: nothing can be drawn",
-            settings->machine != NULL ? "that machine" : "a machine that asks or is served");
+        return nothing(settings);
+    if (!ends.has_host && settings->beside != NULL && view_find(settings->beside, ends.machine, &more) && more.has_host)
+        ends = more; /* what the host sent stands in the other alone */
     int status = draw(settings, &ends, views, c);
     view_free(&views[0]);
     view_free(&views[1]);

@@ -194,10 +194,8 @@ static void take_host(outcome *o, const sighting *s, const mop_fields *f)
         o->complete = true;
         o->begins = 0; /* it offers in the middle of a dump too */
     } else if (wants_answer(f) && is_new(o, s, f)) {
-        *o = (outcome){.asked = s,
-            .fields = *f,
-            .several = o->several || (o->begins != 0 && is_over(o)),
-            .rival = o->rival};
+        *o = (outcome){
+            .asked = s, .fields = *f, .several = o->several || (o->begins != 0 && is_over(o)), .rival = o->rival};
     }
 }
 
@@ -225,11 +223,15 @@ static void say_load(const outcome *o, const char *name, char text[CHART_TEXT])
     else if (o->answered && o->begins != 0)
         snprintf(text, CHART_TEXT, "Not over: the machine answered %s without an error.", name);
     else if (o->answered)
-        snprintf(text, CHART_TEXT, "%she machine answered the last one, %s, without an error. %s 0x%08" PRIX32 ".",
-            o->rival ? "T" : "Finished, as far as the frames show: t", name, "That one says to start at", start);
+        snprintf(text, CHART_TEXT,
+            "%she machine answered the last one, %s, without an error. "
+            "That one says to start at 0x%08" PRIX32 ".",
+            o->rival ? "T" : "Finished, as far as the frames show: t", name, start);
     else
-        snprintf(text, CHART_TEXT, "Not confirmed: no answer to the last frame, %s, stands in the capture. %s 0x%08" PRIX32
-            ", it does not show.", name, "Whether the machine took it, and was started at", start);
+        snprintf(text, CHART_TEXT,
+            "Not confirmed: no answer to the last frame, %s, follows between these two. "
+            "Whether the machine took it, and was started at 0x%08" PRIX32 ", is not shown.",
+            name, start);
 }
 
 /* Ends a load, is answered without an error, and nothing new begins. */
@@ -285,7 +287,7 @@ view_outcome view_end(const view *v, char text[CHART_TEXT])
 {
     const outcome o = follow(v);
     if (o.asked == NULL)
-        snprintf(text, CHART_TEXT, "No host sends this machine a load, or asks it for a dump, in the capture.");
+        snprintf(text, CHART_TEXT, "No load and no request for a dump that can be read stands between these two.");
     else if (o.fields.code != MOP_CODE_REQUEST_DUMP)
         say_load(&o, label_of(o.asked->frame->message, o.asked->frame->length).name, text);
     else
