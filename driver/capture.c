@@ -1,5 +1,6 @@
 #include "capture.h"
 
+#include <ctype.h>
 #include <stdlib.h>
 #include <string.h>
 
@@ -43,6 +44,15 @@ static bool read_magic(reader *r)
     return magic == MICROSECONDS || magic == NANOSECONDS;
 }
 
+/* Whether a file begins as a trace in lines does: pairs of hexadecimal digits. */
+static bool is_text(const contents *file)
+{
+    for (size_t i = 0; i < 2; i++)
+        if (i >= file->length || !isxdigit(file->bytes[i]))
+            return false;
+    return true;
+}
+
 static int read_header(reader *r)
 {
     static const uint8_t next[] = {0x0A, 0x0D, 0x0D, 0x0A};
@@ -51,7 +61,8 @@ static int read_header(reader *r)
         return complain(
             STATUS_FILE, "%s is a capture in the form of pcapng: make it a pcap (tcpdump -r FILE -w NEW)", r->path);
     if (file->length < FILE_HEADER || !read_magic(r))
-        return complain(STATUS_FILE, "%s is no capture in the form of pcap", r->path);
+        return complain(STATUS_FILE, "%s is no capture in the form of pcap%s", r->path,
+            is_text(file) ? " but lines of hexadecimal: --trace writes a capture if the name ends in .pcap" : "");
     if ((number(r, 20) & 0x0FFFFFFF) != ETHERNET)
         return complain(STATUS_FILE, "%s is a capture of another kind of line than Ethernet", r->path);
     r->at = FILE_HEADER;
@@ -73,7 +84,9 @@ static bool cut(const uint8_t *raw, size_t length, captured *m)
 static int add(capture *c, const char *path, const captured *m)
 {
     if (c->count == CHART_ROWS_MOST)
-        return complain(STATUS_FILE, "%s has more than %d messages", path, CHART_ROWS_MOST);
+        return complain(STATUS_FILE,
+            "%s has more than %d messages, of all machines: cut it (tcpdump -r FILE -w NEW ether host ADDRESS)", path,
+            CHART_ROWS_MOST);
     if ((c->count & (c->count - 1)) == 0) {
         captured *grown = realloc(c->list, (c->count == 0 ? 1 : 2 * c->count) * sizeof *grown);
         if (grown == NULL)

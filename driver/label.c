@@ -25,7 +25,7 @@ static void say_bytes(char text[LABEL_TEXT], size_t length, uint32_t address)
     say(text, "%zu byte%s at 0x%08" PRIX32, length, length == 1 ? "" : "s", address);
 }
 
-/* Which program is asked for; of the id only that there is one. */
+/* Which program is asked for, and the software id if there is one. */
 static void say_program(char text[LABEL_TEXT], const uint8_t *frame, const mop_fields *f)
 {
     FILE *out = fmemopen(text, LABEL_TEXT, "w");

@@ -32,8 +32,10 @@ typedef struct queue {
     transcript *transcript;
     size_t *sent; /* the lines of the frames that went in */
     size_t count;
-    size_t first;  /* of those, the first that is in it */
-    bool has_come; /* that one was handed over and kept */
+    const transcript_line *asked; /* the host's last frame, or NULL */
+    size_t first;                 /* of those, the first that is in it */
+    bool has_come;                /* that one was handed over and kept */
+    bool open;                    /* more than one reading agrees with the whole transcript */
     chart_side sender;
 } queue;
 
@@ -68,6 +70,12 @@ static move move_of(const transcript_line *l, chart_side sender)
     return by_timer(l) ? MOVE_NOTHING : MOVE_ANSWER;
 }
 
+/* Whether a frame is handed over or dropped. */
+static bool is_moved(move m)
+{
+    return m == MOVE_TAKEN || m == MOVE_KEPT || m == MOVE_ANSWER || m == MOVE_DROPPED;
+}
+
 static bool is_load(const mop_fields *f)
 {
     return f->code == MOP_CODE_LOAD || f->code == MOP_CODE_LOAD_TRANSFER;
@@ -87,10 +95,31 @@ static bool answers(const transcript_line *reply, const transcript_line *to)
 
 /* ---- The fills of a queue -------------------------------------------- */
 
-/* The fewest frames kept by which a queue can have each fill, or NEVER. */
+/* The fewest frames kept by which a queue can have each fill, or NEVER; and in how many ways: 1, or 2 for more. */
 typedef struct fills {
     uint32_t kept[PLACES + 1];
+    uint8_t ways[PLACES + 1];
 } fills;
+
+static void add_ways(uint8_t *ways, uint8_t more)
+{
+    *ways = *ways + more > 1 ? 2 : 1;
+}
+
+/* Whether the words of an event that sent nothing, if they tell of the frame, tell of this one. */
+static bool is_told(const queue *q, const transcript_line *l, int fill)
+{
+    static const char finished[] = "the host has the last answer: finished",
+                      rejected[] = "the host hears of the error: rejected";
+    if (fill == 0 || l->frame != NULL || l->words_length < sizeof rejected - 1)
+        return fill > 0;
+    const transcript_line *to = &q->transcript->lines[q->sent[q->count - (size_t)fill]];
+    if (l->words_length == sizeof finished - 1 && memcmp(l->words, finished, sizeof finished - 1) == 0)
+        return q->asked != NULL && answers(to, q->asked);
+    if (l->words_length == sizeof rejected - 1 && memcmp(l->words, rejected, sizeof rejected - 1) == 0)
+        return mop_read(MOP_VERSION_3_0, to->frame, to->length).error != 0;
+    return true;
+}
 
 /* What becomes of one fill: the next fill, or -1 if the line cannot be. Of an answer that one is meant in which the frame
  * leaves. */
@@ -106,7 +135,9 @@ static int next_fill(const queue *q, move m, const transcript_line *l, int fill)
     case MOVE_EMPTY:
         return fill == 0 ? 0 : -1;
     case MOVE_KEPT:
-        return fill > 0 ? fill : -1;
+        return is_told(q, l, fill) ? fill : -1;
+    case MOVE_TAKEN:
+        return is_told(q, l, fill) ? fill - 1 : -1;
     case MOVE_ANSWER:
         return fill > 0 && answers(l, &q->transcript->lines[q->sent[q->count - (size_t)fill]]) ? fill - 1 : -1;
     default:
@@ -120,18 +151,21 @@ static bool step(queue *q, fills *now, transcript_line *l)
     const move m = move_of(l, q->sender);
     fills next;
     bool some = false;
-    memset(&next, 0xFF, sizeof next);
+    memset(next.kept, 0xFF, sizeof next.kept);
+    memset(next.ways, 0, sizeof next.ways);
     for (int fill = 0; fill <= PLACES; fill++) {
         const int to = now->kept[fill] == NEVER ? -1 : next_fill(q, m, l, fill);
         if (to < 0)
             continue;
         some = true;
+        add_ways(&next.ways[to], now->ways[fill]);
         if (now->kept[fill] <= next.kept[to]) {
             next.kept[to] = now->kept[fill];
             l->kept &= ~(1U << to);
         }
         if (m == MOVE_ANSWER) {
             next.kept[fill] = now->kept[fill] + 1;
+            add_ways(&next.ways[fill], now->ways[fill]);
             l->kept |= 1U << fill;
         }
     }
@@ -147,23 +181,63 @@ static int least(const fills *f)
     return fill;
 }
 
+/* A queue before the last line that moves a frame. */
+typedef struct last_move {
+    queue queue;
+    fills fills;
+    size_t line;
+} last_move;
+
+/* Whether the lines from there on can be, from one fill. */
+static bool ends_well(last_move *at, int fill)
+{
+    transcript *t = at->queue.transcript;
+    fills now = {.ways = {0}};
+    bool good = true;
+    memset(now.kept, 0xFF, sizeof now.kept);
+    now.kept[fill] = 0;
+    for (size_t i = at->line; i < t->count && good; i++) {
+        transcript_line l = t->lines[i];
+        good = step(&at->queue, &now, &l);
+    }
+    return good;
+}
+
+/* Whether there is more than one way to there. Whether that line kept the frame is not drawn. */
+static bool is_open(last_move *at)
+{
+    uint8_t ways = 0;
+    for (int fill = 0; fill <= PLACES; fill++)
+        if (at->fills.ways[fill] > 0 && ends_well(at, fill))
+            add_ways(&ways, at->fills.ways[fill]);
+    return ways > 1;
+}
+
 /* Follows the queue over all lines: 0 and its last fill, or an exit status. */
-static int follow(queue *q, int *last)
+static int follow(queue *q, int *fill)
 {
     transcript *t = q->transcript;
-    fills now;
-    memset(&now, 0xFF, sizeof now);
+    fills now = {.ways = {1}};
+    last_move last = {.line = t->count};
+    memset(now.kept, 0xFF, sizeof now.kept);
     now.kept[0] = 0;
     for (size_t i = 0; i < t->count; i++) {
-        t->lines[i].kept = 0;
-        if (!step(q, &now, &t->lines[i]))
+        transcript_line *l = &t->lines[i];
+        const move m = move_of(l, q->sender);
+        l->kept = 0;
+        if (is_moved(m))
+            last = (last_move){*q, now, i};
+        if (!step(q, &now, l))
             return complain(STATUS_FILE,
                 "%s, line %zu: it does not follow from the lines before, by the frames that are on the line then",
-                t->path, t->lines[i].number);
-        if (move_of(&t->lines[i], q->sender) == MOVE_SENT)
+                t->path, l->number);
+        if (m == MOVE_SENT)
             q->sent[q->count++] = i;
+        if (l->letter == 'H')
+            q->asked = l;
     }
-    *last = least(&now);
+    *fill = least(&now);
+    q->open = last.line < t->count && is_open(&last);
     return 0;
 }
 
@@ -203,7 +277,7 @@ static void draw_queue(queue *q, chart *c)
         const move m = move_of(&q->transcript->lines[row], q->sender);
         if (m == MOVE_FULL)
             chart_send(c, q->sender, (int32_t)(4 * row), (int32_t)(4 * row + 2), CHART_LOST);
-        else if (m == MOVE_TAKEN || m == MOVE_KEPT || m == MOVE_ANSWER || m == MOVE_DROPPED)
+        else if (is_moved(m))
             draw_move(q, c, row, m);
     }
 }
@@ -228,6 +302,10 @@ static int replay_queue(transcript *t, chart *c, chart_side sender)
         draw_queue(&q, c);
         draw_rest(&q, c);
     }
+    if (status == 0 && q.open)
+        snprintf(c->notes[0], CHART_TEXT,
+            "The transcript does not tell which of some frames was kept on the line: "
+            "one reading of several is drawn, with the fewest kept.");
     free(q.sent);
     return status;
 }

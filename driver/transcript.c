@@ -141,11 +141,22 @@ static int read_end(transcript *t, size_t line, span s)
     return 0;
 }
 
-/* Which of these a line is. Behind END explain says a sentence. */
+/* Behind END explain says a sentence; beyond that there may be empty lines. */
+static int read_rest(transcript *t, size_t line, span s)
+{
+    if (s.at == s.end)
+        return 0;
+    if (!t->explained || t->said)
+        return wrong(t, line, "something stands behind END");
+    t->said = true;
+    return 0;
+}
+
+/* Which of these a line is. */
 static int read_line(transcript *t, size_t line, span s)
 {
     if (t->over)
-        return s.at == s.end || t->explained ? 0 : wrong(t, line, "something stands behind END");
+        return read_rest(t, line, s);
     if (begins(s, "BAD "))
         return wrong(t, line, "the rehearsal refused its input, and there is nothing to draw");
     if (begins(s, "END "))

@@ -34,6 +34,7 @@ typedef struct transcript {
     uint64_t sent;
     bool started;
     uint32_t start;
+    bool said; /* the sentence behind END has come */
 } transcript;
 
 /* Reads a transcript: 0, or an exit status with the line and the reason said. The bytes of the file are changed, and the
