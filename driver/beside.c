@@ -8,6 +8,7 @@
 #include "words.h"
 
 #define FAR 10000000     /* microseconds that no frame is on its way */
+#define EARLY 20000      /* microseconds that no frame comes before it is sent, by clocks that are compared */
 #define NEAR 100000      /* microseconds: differences of the clocks that are farther from the middle one are left out */
 #define EVENT 1000000    /* a loss or a double counts as much as so many microseconds on the way */
 #define CHOICES 128      /* sent frames of which a received one is taken for one */
@@ -299,15 +300,23 @@ static bool is_taken(const pair *p, chart_side end, int64_t time)
            time_at(p, end, v->list[from].frame) - time <= SILENCE;
 }
 
-/* The frames that came and that the sender's capture lacks, although it was being taken. */
+/* Whether a frame that came speaks against the two ends: the sender's capture lacks it, although it was being taken, or
+ * has it much later alone. */
+static bool is_stranger(const pair *p, chart_side end, const sighting *s)
+{
+    const int64_t time = time_at(p, end, s->frame);
+    if (s->sender == end)
+        return false;
+    if (s->partner == NOWHERE)
+        return is_taken(p, s->sender, time);
+    return time_at(p, s->sender, p->views[s->sender]->list[s->partner].frame) - time > EARLY;
+}
+
 static size_t strangers(const pair *p, chart_side end)
 {
-    const view *v = p->views[end];
     size_t count = 0;
-    for (size_t i = 0; i < v->count; i++) {
-        const sighting *s = &v->list[i];
-        count += s->sender != end && s->partner == NOWHERE && is_taken(p, s->sender, time_at(p, end, s->frame));
-    }
+    for (size_t i = 0; i < p->views[end]->count; i++)
+        count += is_stranger(p, end, &p->views[end]->list[i]);
     return count;
 }
 
@@ -330,7 +339,7 @@ static void turn(pair *p)
     }
 }
 
-/* Which capture is the host's: the first, unless it has more frames that nobody sent then. */
+/* Which capture is the host's: the first, unless fewer frames speak against the other. */
 static void pair_views(pair *p)
 {
     const size_t as_given = match_both(p);

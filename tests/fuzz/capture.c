@@ -29,31 +29,43 @@ typedef struct event {
 #define EVENTS 60
 static event events[EVENTS];
 static size_t count;
+static int64_t timer; /* after which a frame is sent again */
 
 /* ---- A session ------------------------------------------------------- */
 
-static int64_t add_event(bool from_host, const uint8_t *message, size_t length, int64_t time)
+static event *add_event(bool from_host, const uint8_t *message, size_t length, int64_t time)
 {
     event *e = &events[count++];
     *e = (event){.length = length, .sent = time, .from_host = from_host, .copies = one_in(4) ? 0 : one_in(4) ? 2 : 1};
     memcpy(e->message, message, length);
     e->came[0] = time + 200 + below(2000);
-    e->came[1] = e->came[0] + 100 + below(1000);
-    return e->copies == 0 ? 0 : e->came[e->copies - 1];
+    e->came[1] = e->came[0] + 1 + below(one_in(2) ? 20 : 1000);
+    return e;
+}
+
+/* The machine answers each copy of a load, and the host goes on with the first answer: when that comes, or 0. */
+static int64_t answer(const event *load, uint8_t number)
+{
+    const uint8_t request[] = {10, (uint8_t)(number + 1), 0};
+    const event came = *load;
+    int64_t first = 0;
+    for (int i = 0; i < came.copies; i++) {
+        const event *e = add_event(false, request, sizeof request, came.came[i] + 5 + 10 * i + below(10));
+        if (e->copies > 0 && (first == 0 || e->came[0] < first))
+            first = e->came[0];
+    }
+    return first;
 }
 
 /* A frame is sent until it is answered: when the answer comes. The first one goes through, so that the clocks can be
  * compared. */
-static int64_t exchange(uint8_t number, int64_t time, int64_t timer)
+static int64_t exchange(uint8_t number, int64_t time)
 {
-    const uint8_t load[] = {2, number, number, 1, 0, 0, 'A'}, request[] = {10, (uint8_t)(number + 1), 0};
-    for (int tries = 0; tries < 3 && count + 2 <= EVENTS; tries++, time += timer) {
-        int64_t came = add_event(true, load, sizeof load, time);
-        if (number == 0) {
-            events[count - 1].copies = 1;
-            came = events[count - 1].came[0];
-        }
-        int64_t answered = came == 0 ? 0 : add_event(false, request, sizeof request, came + 50 + below(200));
+    const uint8_t load[] = {2, number, number, 1, 0, 0, 'A'};
+    for (int tries = 0; tries < 3 && count + 3 <= EVENTS; tries++, time += timer) {
+        event *e = add_event(true, load, sizeof load, time);
+        e->copies = number == 0 ? 1 : e->copies;
+        const int64_t came = e->came[0], answered = answer(e, number);
         if (answered != 0 || number == 0)
             return (answered == 0 ? came + 5000 : answered) + 50 + below(200);
     }
@@ -63,15 +75,16 @@ static int64_t exchange(uint8_t number, int64_t time, int64_t timer)
 static void make_session(void)
 {
     const uint8_t asks[] = {8, 0, 1, 2, 255, 0};
-    static const int64_t timers[] = {100000, 4000000, 12000000};
+    static const int64_t timers[] = {50000, 4000000, 12000000};
     const uint8_t loads = (uint8_t)(1 + below(8));
     int64_t time = 1000000;
     count = 0;
+    timer = timers[loads % 3];
     add_event(false, asks, sizeof asks, time);
     events[0].to_all = true;
     time = events[0].came[1] + 1000;
     for (uint8_t i = 0; i < loads; i++)
-        time = exchange(i, time, timers[loads % 3]);
+        time = exchange(i, time);
 }
 
 /* ---- Captures of it -------------------------------------------------- */
@@ -161,43 +174,87 @@ static size_t drawn(const chart *c, chart_way way)
     return n;
 }
 
-static size_t happened(int copies)
-{
-    size_t n = 0;
-    for (size_t i = 0; i < count; i++)
-        n += events[i].copies >= copies;
-    return n;
-}
-
-/* Whether the capture of the end to which a frame did not come has a frame in the 10 seconds before it and behind it. */
-static bool slow_covered(const event *e)
+/* Whether the capture of the end to which a frame did not come has a frame in the 10 seconds before it and behind it; by
+ * so many microseconds more or less. */
+static bool slow_covered(const event *e, int64_t slack)
 {
     static seen list[3 * EVENTS];
     const size_t n = seen_by(!e->from_host, list);
     bool before = false, behind = false;
     for (size_t i = 0; i < n; i++) {
         const int64_t away = list[i].time - e->sent;
-        before = before || (away <= 0 && away >= -10000000);
-        behind = behind || (away >= 0 && away <= 10000000);
+        before = before || (away <= slack && away >= -10000000 - slack);
+        behind = behind || (away >= -slack && away <= 10000000 + slack);
     }
     return before && behind;
 }
 
-static size_t slow_lost(void)
+static bool is_equal(const event *a, const event *b)
 {
-    size_t n = 0;
-    for (size_t i = 0; i < count; i++)
-        n += events[i].copies == 0 && slow_covered(&events[i]);
-    return n;
+    return a->length == b->length && memcmp(a->message, b->message, a->length) == 0;
 }
 
+/* Equal frames of which the captures do not tell which one was lost: how many lacked, or came more often than they were
+ * sent; and whether the other capture was being taken, for all of them or for one at least. */
+typedef struct run {
+    int lacking;
+    bool covered;
+    bool perhaps;
+} run;
+
+static run run_of(size_t first)
+{
+    run r = {0, true, false};
+    for (size_t i = first; i < count; i++) {
+        const event *e = &events[i];
+        if (!is_equal(e, &events[first]) || e->sent - events[first].sent > 1000000)
+            continue;
+        r.lacking += 1 - e->copies;
+        r.covered = r.covered && slow_covered(e, -3000);
+        r.perhaps = r.perhaps || slow_covered(e, 3000);
+    }
+    return r;
+}
+
+/* Whether a frame is the first of its run. */
+static bool begins_run(size_t at)
+{
+    for (size_t i = 0; i < at; i++)
+        if (is_equal(&events[i], &events[at]) && events[at].sent - events[i].sent <= 1000000)
+            return false;
+    return true;
+}
+
+/* No more is drawn as lost, or as come twice, than the captures show; and no less. */
 static void check_pair(const chart *c)
 {
-    require(drawn(c, CHART_CAME) == happened(1), "what came is drawn so");
-    require(drawn(c, CHART_DOUBLE) == happened(2), "what came twice is drawn so");
-    require(drawn(c, CHART_LOST) + drawn(c, CHART_UNKNOWN) == count - happened(1), "what did not come is drawn so");
-    require(drawn(c, CHART_LOST) == slow_lost(), "lost is what the other capture shows to be lost");
+    size_t lost = 0, least = 0, most = 0, twice = 0;
+    for (size_t i = 0; i < count; i++) {
+        const run r = begins_run(i) ? run_of(i) : (run){0, false, false};
+        const size_t lacking = r.lacking > 0 ? (size_t)r.lacking : 0;
+        lost += lacking;
+        least += r.covered ? lacking : 0;
+        most += r.perhaps ? lacking : 0;
+        twice += r.lacking < 0 ? (size_t)-r.lacking : 0;
+    }
+    require(drawn(c, CHART_CAME) == count - lost, "what came is drawn so");
+    require(drawn(c, CHART_DOUBLE) == twice, "what came twice is drawn so");
+    require(drawn(c, CHART_LOST) + drawn(c, CHART_UNKNOWN) == lost, "what did not come is drawn so");
+    require(drawn(c, CHART_LOST) >= least && drawn(c, CHART_LOST) <= most,
+        "lost is what the other capture shows to be lost");
     require(drawn(c, CHART_UNSENT) == 0, "nothing comes that was not sent");
+}
+
+/* Whether the captures tell which is the host's: the first of equal frames was lost, and one sent by a timer came. */
+static bool tells_ends(void)
+{
+    for (size_t i = 1; i < count; i++)
+        if (events[i].copies == 0 && timer < 10000000 && begins_run(i))
+            for (size_t j = i + 1; j < count; j++)
+                if (is_equal(&events[i], &events[j]) && events[j].sent - events[i].sent >= timer &&
+                    events[j].copies > 0)
+                    return true;
+    return false;
 }
 
 static uint32_t slow_number(const contents *f, size_t at)
@@ -265,13 +322,20 @@ static bool draw(const contents files[2], bool both, bool host, bool mutated)
     return good;
 }
 
+/* By how much a clock is ahead: often by little, and by anything. */
+static int64_t any_clock(void)
+{
+    return one_in(3) ? 0 : one_in(2) ? (int64_t)below(1000000) : 10 * (int64_t)below(100000000);
+}
+
 bool fuzz_capture(void)
 {
-    const int64_t clock = one_in(2) ? 0 : 700000 + 10 * (int64_t)below(100000000);
-    const bool mutated = one_in(2), host = clock != 0 || one_in(2); /* by two clocks the order is not told */
+    const int64_t clocks[2] = {any_clock(), any_clock()};
+    const bool mutated = one_in(2);
     make_session();
-    const contents one = make_capture(host, host ? 0 : clock, mutated);
-    const contents two = make_capture(!host, host ? clock : 0, mutated && one_in(2));
+    const bool host = !tells_ends() || one_in(2);
+    const contents one = make_capture(host, clocks[0], mutated);
+    const contents two = make_capture(!host, clocks[1], mutated && one_in(2));
     const contents files[2] = {one, two};
     return draw(files, one_in(2), host, mutated);
 }
