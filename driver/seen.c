@@ -102,11 +102,9 @@ static int nothing(const seen_settings *settings)
 int seen_chart(const seen_settings *settings, chart *c)
 {
     view views[2] = {{.list = NULL}, {.list = NULL}};
-    view_ends ends, more;
+    view_ends ends;
     if (!view_find(settings->capture, settings->machine, &ends))
         return nothing(settings);
-    if (!ends.has_host && settings->beside != NULL && view_find(settings->beside, ends.machine, &more) && more.has_host)
-        ends = more; /* what the host sent stands in the other alone */
     int status = draw(settings, &ends, views, c);
     view_free(&views[0]);
     view_free(&views[1]);
