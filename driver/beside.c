@@ -8,7 +8,7 @@
 #include "words.h"
 
 #define FAR 10000000     /* microseconds that no frame is on its way */
-#define EARLY 20000      /* microseconds that no frame comes before it is sent, by clocks that are compared */
+#define EARLY 5000       /* microseconds that no frame comes before it is sent, by clocks that are compared */
 #define NEAR 100000      /* microseconds: differences of the clocks that are farther from the middle one are left out */
 #define EVENT 1000000    /* a loss or a double counts as much as so many microseconds on the way */
 #define CHOICES 128      /* sent frames of which a received one is taken for one */
@@ -191,7 +191,13 @@ static void compare_clocks(pair *p)
 
 static int64_t way_of(const pair *p, chart_side sender, const item *sent, const item *got)
 {
-    return distance(time_at(p, sender, sent->frame), time_at(p, other(sender), got->frame));
+    return time_at(p, other(sender), got->frame) - time_at(p, sender, sent->frame);
+}
+
+/* What a frame's way counts. One that came before it was sent counts more than a loss and a double. */
+static int64_t cost_of(int64_t way)
+{
+    return way < -EARLY ? 2 * EVENT - way : llabs(way);
 }
 
 /* The choices of each received frame of a group; how many have any. First, last and near go forwards alone. */
@@ -204,8 +210,8 @@ static size_t make_steps(const pair *p, chart_side sender, const group *g)
             first++;
         while (last < g->sent_count && time_at(p, sender, g->sent[last].frame) <= time + FAR)
             last++;
-        while (near + 1 < g->sent_count &&
-               way_of(p, sender, &g->sent[near + 1], &g->got[i]) <= way_of(p, sender, &g->sent[near], &g->got[i]))
+        while (near + 1 < g->sent_count && llabs(way_of(p, sender, &g->sent[near + 1], &g->got[i])) <=
+                                               llabs(way_of(p, sender, &g->sent[near], &g->got[i])))
             near++;
         const size_t from = near > first + CHOICES / 2 ? near - CHOICES / 2 : first;
         const size_t end = last > from + CHOICES ? from + CHOICES : last;
@@ -252,7 +258,7 @@ static size_t walk(const pair *p, chart_side sender, const group *g, size_t coun
             weigh(s - 1, &all[(i - 1) % 2], s, now);
         best = 0;
         for (size_t k = 0; k < s->count; k++) {
-            now->list[k] += way_of(p, sender, &g->sent[s->first + k], &g->got[s->got]);
+            now->list[k] += cost_of(way_of(p, sender, &g->sent[s->first + k], &g->got[s->got]));
             if (now->list[k] - EVENT * (int64_t)k < now->list[best] - EVENT * (int64_t)best)
                 best = k;
         }

@@ -81,6 +81,19 @@ static int y_of(const plan *p, int32_t quarter)
     return (int)y;
 }
 
+static int gap_middle(const plan *p)
+{
+    return ROWS_TOP + (int)p->cut * ROW_HEIGHT + GAP_HEIGHT / 2 - ROW_HEIGHT / 2;
+}
+
+/* Where a text that would stand in the gap stands: behind it. */
+static int beside_gap(const plan *p, int y)
+{
+    const int away = y - gap_middle(p);
+    return p->resume > p->cut && away > -GAP_HEIGHT / 2 && away < GAP_HEIGHT / 2 + 6 ? y - away + GAP_HEIGHT / 2 + 6
+                                                                                     : y;
+}
+
 static int rows_end(const plan *p)
 {
     return y_of(p, (int32_t)(4 * p->chart->rows_count)) + 4;
@@ -132,7 +145,7 @@ static void draw_arrow(FILE *out, const plan *p, const chart_arrow *a)
     const svg_point from = {x_of(a->sender), y_of(p, a->from)};
     const svg_point to = {a->sender == CHART_HOST ? MACHINE_X : HOST_X, y_of(p, a->to)};
     const svg_point middle = {(from.x + to.x) / 2, to.y};
-    const svg_point near_end = {(from.x + 3 * to.x) / 4, (from.y + 3 * to.y) / 4 + 4};
+    const svg_point near_end = {(from.x + 3 * to.x) / 4, beside_gap(p, (from.y + 3 * to.y) / 4 + 4)};
     switch (a->way) {
     case CHART_CAME:
         svg_arrow(out, from, to, SVG_SOLID, colour);
@@ -283,7 +296,7 @@ static void say_gap(const gap *g, char text[CHART_TEXT])
 static void draw_gap(FILE *out, const plan *p)
 {
     char text[CHART_TEXT], more[CHART_TEXT];
-    const int middle = ROWS_TOP + (int)p->cut * ROW_HEIGHT + GAP_HEIGHT / 2 - ROW_HEIGHT / 2;
+    const int middle = gap_middle(p);
     if (p->resume == p->cut)
         return;
     const gap g = gap_of(p);

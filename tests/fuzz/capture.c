@@ -30,6 +30,7 @@ typedef struct event {
 static event events[EVENTS];
 static size_t count;
 static int64_t timer; /* after which a frame is sent again */
+static int64_t last_came[2];
 
 /* ---- A session ------------------------------------------------------- */
 
@@ -39,7 +40,10 @@ static event *add_event(bool from_host, const uint8_t *message, size_t length, i
     *e = (event){.length = length, .sent = time, .from_host = from_host, .copies = one_in(4) ? 0 : one_in(4) ? 2 : 1};
     memcpy(e->message, message, length);
     e->came[0] = time + 200 + below(2000);
+    if (one_in(2) && e->came[0] <= last_came[from_host])
+        e->came[0] = last_came[from_host] + 1; /* mostly a line keeps the order */
     e->came[1] = e->came[0] + 1 + below(one_in(2) ? 20 : 1000);
+    last_came[from_host] = e->came[1];
     return e;
 }
 
@@ -79,6 +83,7 @@ static void make_session(void)
     const uint8_t loads = (uint8_t)(1 + below(8));
     int64_t time = 1000000;
     count = 0;
+    last_came[0] = last_came[1] = 0;
     timer = timers[loads % 3];
     add_event(false, asks, sizeof asks, time);
     events[0].to_all = true;
@@ -194,53 +199,64 @@ static bool is_equal(const event *a, const event *b)
     return a->length == b->length && memcmp(a->message, b->message, a->length) == 0;
 }
 
-/* Equal frames of which the captures do not tell which one was lost: how many lacked, or came more often than they were
- * sent; and whether the other capture was being taken, for all of them or for one at least. */
-typedef struct run {
-    int lacking;
-    bool covered;
-    bool perhaps;
-} run;
-
-static run run_of(size_t first)
-{
-    run r = {0, true, false};
-    for (size_t i = first; i < count; i++) {
-        const event *e = &events[i];
-        if (!is_equal(e, &events[first]) || e->sent - events[first].sent > 1000000)
-            continue;
-        r.lacking += 1 - e->copies;
-        r.covered = r.covered && slow_covered(e, -3000);
-        r.perhaps = r.perhaps || slow_covered(e, 3000);
-    }
-    return r;
-}
-
-/* Whether a frame is the first of its run. */
-static bool begins_run(size_t at)
+/* Whether a frame is the first of equal ones that were sent within so many microseconds. */
+static bool begins_run(size_t at, int64_t span)
 {
     for (size_t i = 0; i < at; i++)
-        if (is_equal(&events[i], &events[at]) && events[at].sent - events[i].sent <= 1000000)
+        if (is_equal(&events[i], &events[at]) && events[at].sent - events[i].sent <= span)
             return false;
     return true;
 }
 
-/* No more is drawn as lost, or as come twice, than the captures show; and no less. */
+/* What the captures show of lacking and of doubled frames if of equal ones sent within a span they do not tell which was
+ * lost; of those that lack, how many are surely lost, and how many perhaps, as the other capture was being taken. */
+typedef struct shown {
+    size_t lost;
+    size_t surely;
+    size_t perhaps;
+    size_t twice;
+} shown;
+
+static void add_run(shown *all, size_t first, int64_t span)
+{
+    int lacking = 0;
+    bool surely = true, perhaps = false;
+    for (size_t i = first; i < count; i++) {
+        const event *e = &events[i];
+        if (!is_equal(e, &events[first]) || e->sent - events[first].sent > span)
+            continue;
+        lacking += 1 - e->copies;
+        surely = surely && slow_covered(e, -3000);
+        perhaps = perhaps || slow_covered(e, 3000);
+    }
+    const size_t lost = lacking > 0 ? (size_t)lacking : 0;
+    all->lost += lost;
+    all->surely += surely ? lost : 0;
+    all->perhaps += perhaps ? lost : 0;
+    all->twice += lacking < 0 ? (size_t)-lacking : 0;
+}
+
+static shown shown_by(int64_t span)
+{
+    shown all = {0, 0, 0, 0};
+    for (size_t i = 0; i < count; i++)
+        if (begins_run(i, span))
+            add_run(&all, i, span);
+    return all;
+}
+
+#define RUN 1000000 /* microseconds */
+#define AT_ONCE 5000
+
+/* Of equal frames the fewest are drawn as lost and as come twice; of those sent at once no more than lack. */
 static void check_pair(const chart *c)
 {
-    size_t lost = 0, least = 0, most = 0, twice = 0;
-    for (size_t i = 0; i < count; i++) {
-        const run r = begins_run(i) ? run_of(i) : (run){0, false, false};
-        const size_t lacking = r.lacking > 0 ? (size_t)r.lacking : 0;
-        lost += lacking;
-        least += r.covered ? lacking : 0;
-        most += r.perhaps ? lacking : 0;
-        twice += r.lacking < 0 ? (size_t)-r.lacking : 0;
-    }
+    const shown fewest = shown_by(RUN), most = shown_by(AT_ONCE);
+    const size_t lost = drawn(c, CHART_LOST) + drawn(c, CHART_UNKNOWN);
     require(drawn(c, CHART_CAME) == count - lost, "what came is drawn so");
-    require(drawn(c, CHART_DOUBLE) == twice, "what came twice is drawn so");
-    require(drawn(c, CHART_LOST) + drawn(c, CHART_UNKNOWN) == lost, "what did not come is drawn so");
-    require(drawn(c, CHART_LOST) >= least && drawn(c, CHART_LOST) <= most,
+    require(lost >= fewest.lost && lost <= most.lost, "what did not come is drawn so");
+    require(drawn(c, CHART_DOUBLE) + fewest.lost == lost + fewest.twice, "what came twice is drawn so");
+    require(drawn(c, CHART_LOST) >= fewest.surely && drawn(c, CHART_LOST) <= most.perhaps,
         "lost is what the other capture shows to be lost");
     require(drawn(c, CHART_UNSENT) == 0, "nothing comes that was not sent");
 }
@@ -249,7 +265,7 @@ static void check_pair(const chart *c)
 static bool tells_ends(void)
 {
     for (size_t i = 1; i < count; i++)
-        if (events[i].copies == 0 && timer < 10000000 && begins_run(i))
+        if (events[i].copies == 0 && timer < 10000000 && begins_run(i, RUN))
             for (size_t j = i + 1; j < count; j++)
                 if (is_equal(&events[i], &events[j]) && events[j].sent - events[i].sent >= timer &&
                     events[j].copies > 0)

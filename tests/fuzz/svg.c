@@ -98,6 +98,7 @@ static void close_tag(scan *s)
 
 /* Where a text stands. */
 typedef struct extent {
+    const char *text;
     int from;
     int to;
     int y;
@@ -128,9 +129,19 @@ static bool read_text(const char *at, extent *e)
             &length) != 4)
         return false;
     const int width = width_of(font, at + length);
+    e->text = at + length;
     e->from = strcmp(anchor, "start") == 0 ? x : strcmp(anchor, "end") == 0 ? x - width : x - width / 2;
     e->to = e->from + width;
     return true;
+}
+
+/* Whether a text lies over another. One that is the same at the same place reads as one: two arrows may share it. */
+static bool lies_over(const extent *a, const extent *b)
+{
+    const size_t length = strcspn(a->text, "<");
+    if (abs(a->y - b->y) >= TEXT_HEIGHT || a->to < b->from || b->to < a->from)
+        return false;
+    return a->y != b->y || a->from != b->from || strncmp(a->text, b->text, length + 1) != 0;
 }
 
 /* No text leaves the picture, and none lies over another. */
@@ -143,8 +154,7 @@ static void scan_texts(const char *picture)
         require(read_text(at, &e), "a text has a font and a place");
         require(e.from >= 0 && e.to <= SVG_WIDTH, "a text lies in the picture");
         for (size_t i = 0; i < count; i++)
-            require(abs(list[i].y - e.y) >= TEXT_HEIGHT || list[i].to < e.from || e.to < list[i].from,
-                "no text lies over another");
+            require(!lies_over(&list[i], &e), "no text lies over another");
         list[count++] = e;
     }
 }
