@@ -186,8 +186,9 @@ static void compare_clocks(pair *p)
 
 /* ---- Which is which -------------------------------------------------- */
 
-/* Equal frames come in the order in which they were sent. Of all ways to say which received frame is which sent one that
- * is taken in which the fewest were lost or came twice, and were the least on their way. */
+/* Equal frames come in the order in which they were sent. Of all ways to say which received frame is which sent one,
+ * that is taken in which the fewest were lost or came twice, and they were the least on their way: each loss and each
+ * double counts as much as a second. */
 
 static int64_t way_of(const pair *p, chart_side sender, const item *sent, const item *got)
 {
@@ -215,8 +216,8 @@ static size_t make_steps(const pair *p, chart_side sender, const group *g)
             near++;
         const size_t from = near > first + CHOICES / 2 ? near - CHOICES / 2 : first;
         const size_t end = last > from + CHOICES ? from + CHOICES : last;
-        if (from < end)
-            p->steps[count++] = (step){.got = i, .first = from, .count = end - from};
+        p->steps[count] = (step){.got = i, .first = from, .count = end - from};
+        count += from < end;
     }
     return count;
 }

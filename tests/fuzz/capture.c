@@ -179,8 +179,8 @@ static size_t drawn(const chart *c, chart_way way)
     return n;
 }
 
-/* Whether the capture of the end to which a frame did not come has a frame in the 10 seconds before it and behind it; by
- * so many microseconds more or less. */
+/* Whether the capture of the end to which a frame did not come has a frame in the 10 seconds before it and behind it;
+ * by so many microseconds more or less. */
 static bool slow_covered(const event *e, int64_t slack)
 {
     static seen list[3 * EVENTS];
@@ -208,8 +208,8 @@ static bool begins_run(size_t at, int64_t span)
     return true;
 }
 
-/* What the captures show of lacking and of doubled frames if of equal ones sent within a span they do not tell which was
- * lost; of those that lack, how many are surely lost, and how many perhaps, as the other capture was being taken. */
+/* What the captures show of lacking and of doubled frames if of equal ones sent within a span they do not tell which
+ * was lost; of those that lack, how many are surely lost, and how many perhaps, as the other capture was being taken. */
 typedef struct shown {
     size_t lost;
     size_t surely;
