@@ -100,13 +100,19 @@ static size_t run(const item *from, const item *end, const item *like)
     return count;
 }
 
-/* The group behind this one, or the first if its places are NULL; false if there is none. */
+/* Before the first group. */
+static group no_group(const pair *p, chart_side sender)
+{
+    return (group){p->frames[sender][sender].list, 0, p->frames[other(sender)][sender].list, 0};
+}
+
+/* The group behind this one; false if there is none. */
 static bool next_group(const pair *p, chart_side sender, group *g)
 {
     const frames *sent = &p->frames[sender][sender], *got = &p->frames[other(sender)][sender];
     const item *sent_end = sent->list + sent->count, *got_end = got->list + got->count;
-    g->sent = g->sent == NULL ? sent->list : g->sent + g->sent_count;
-    g->got = g->got == NULL ? got->list : g->got + g->got_count;
+    g->sent += g->sent_count;
+    g->got += g->got_count;
     if (g->sent == sent_end && g->got == got_end)
         return false;
     const bool by_sent = g->got == got_end || (g->sent < sent_end && compare_frames(g->sent->frame, g->got->frame) < 0);
@@ -157,7 +163,7 @@ static enum trust measure(const pair *p, chart_side sender, int64_t *ahead)
     enum trust trust = TRUST_ONCE;
     size_t count = 0, at = 0;
     for (; trust < TRUST_NONE; trust++) {
-        group g = {.sent = NULL};
+        group g = no_group(p, sender);
         while (next_group(p, sender, &g))
             count += add_differences(&g, sender, trust, p->room + count);
         if (count > 0)
@@ -271,7 +277,7 @@ static size_t walk(const pair *p, chart_side sender, const group *g, size_t coun
 static void match(pair *p, chart_side sender)
 {
     const view *from = p->views[sender], *to = p->views[other(sender)];
-    group g = {.sent = NULL};
+    group g = no_group(p, sender);
     while (next_group(p, sender, &g)) {
         const size_t count = make_steps(p, sender, &g);
         size_t choice = walk(p, sender, &g, count);

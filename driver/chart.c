@@ -204,7 +204,8 @@ static void name_of(const chart_row *row, const char *name, int width, char text
                                           : "");
     snprintf(text, LABEL_TEXT, "%.80s", name);
     svg_shorten(text, SVG_STRONG, width - svg_width(SVG_STRONG, marks, strlen(marks)));
-    strcat(text, marks);
+    const size_t length = strlen(text);
+    snprintf(text + length, LABEL_TEXT - length, "%s", marks);
 }
 
 /* What stands beside a row: the frame's name, beside which the time stands, and what it says; or what happened, in two

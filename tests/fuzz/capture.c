@@ -248,6 +248,16 @@ static shown shown_by(int64_t span)
 #define RUN 1000000 /* microseconds */
 #define AT_ONCE 5000
 
+/* By the clocks as they are compared, which are not far from the truth. */
+static void check_times(const chart *c)
+{
+    for (size_t i = 0; i < c->arrows_count; i++) {
+        const chart_arrow *a = &c->arrows[i];
+        if (a->way == CHART_CAME || a->way == CHART_DOUBLE)
+            require(c->rows[a->to / 4].time - c->rows[a->from / 4].time >= -6000, "nothing comes before it is sent");
+    }
+}
+
 /* Of equal frames the fewest are drawn as lost and as come twice; of those sent at once no more than lack. */
 static void check_pair(const chart *c)
 {
@@ -259,6 +269,7 @@ static void check_pair(const chart *c)
     require(drawn(c, CHART_LOST) >= fewest.surely && drawn(c, CHART_LOST) <= most.perhaps,
         "lost is what the other capture shows to be lost");
     require(drawn(c, CHART_UNSENT) == 0, "nothing comes that was not sent");
+    check_times(c);
 }
 
 /* Whether the captures tell which is the host's: the first of equal frames was lost, and one sent by a timer came. */

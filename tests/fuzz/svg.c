@@ -109,7 +109,7 @@ static int width_of(const char *font, const char *text)
     static const char *const fonts[] = {"title", "strong", "plain", "small", "figures", "over"};
     char shown[4096];
     size_t length = 0, at = 0;
-    while (at < SVG_OVER && strcmp(fonts[at], font) != 0)
+    while (at < SVG_OVER && strncmp(fonts[at], font, strlen(fonts[at])) != 0)
         at++;
     for (; *text != '<'; text++) {
         require(length < sizeof shown, "a text is short");
@@ -120,19 +120,23 @@ static int width_of(const char *font, const char *text)
     return svg_width((svg_font)at, shown, length);
 }
 
-/* The text that begins here; false if none does. */
-static bool read_text(const char *at, extent *e)
+/* What stands behind an attribute's name in a tag. */
+static const char *value_of(const char *tag, const char *name)
 {
-    char font[10], anchor[10];
-    int x = 0, length = 0;
-    if (sscanf(at, "<text class=\"%9[a-z]\" x=\"%d\" y=\"%d\" text-anchor=\"%9[a-z]\">%n", font, &x, &e->y, anchor,
-            &length) != 4)
-        return false;
-    const int width = width_of(font, at + length);
-    e->text = at + length;
-    e->from = strcmp(anchor, "start") == 0 ? x : strcmp(anchor, "end") == 0 ? x - width : x - width / 2;
-    e->to = e->from + width;
-    return true;
+    const char *at = strstr(tag, name);
+    require(at != NULL && at < strchr(tag, '>'), "a text has a font and a place");
+    return at + strlen(name);
+}
+
+/* The text that begins here. */
+static extent read_text(const char *tag)
+{
+    extent e = {.text = strchr(tag, '>') + 1, .y = (int)strtol(value_of(tag, " y=\""), NULL, 10)};
+    const char *font = value_of(tag, " class=\""), *anchor = value_of(tag, " text-anchor=\"");
+    const int x = (int)strtol(value_of(tag, " x=\""), NULL, 10), width = width_of(font, e.text);
+    e.from = strncmp(anchor, "start", 5) == 0 ? x : strncmp(anchor, "end", 3) == 0 ? x - width : x - width / 2;
+    e.to = e.from + width;
+    return e;
 }
 
 /* Whether a text lies over another. One that is the same at the same place reads as one: two arrows may share it. */
@@ -150,8 +154,7 @@ static void scan_texts(const char *picture)
     static extent list[TEXTS];
     size_t count = 0;
     for (const char *at = picture; count < TEXTS && (at = strstr(at, "<text ")) != NULL; at++) {
-        extent e;
-        require(read_text(at, &e), "a text has a font and a place");
+        const extent e = read_text(at);
         require(e.from >= 0 && e.to <= SVG_WIDTH, "a text lies in the picture");
         for (size_t i = 0; i < count; i++)
             require(!lies_over(&list[i], &e), "no text lies over another");
