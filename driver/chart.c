@@ -139,21 +139,42 @@ static plan plan_of(const chart *c, size_t most)
 
 /* ---- Arrows ---------------------------------------------------------- */
 
+#define WORD_HEIGHT 10
+#define WORDS_NEAR 64 /* arrows before one whose words may meet its own */
+
+/* Where it is said of a frame that it came twice: near the end of the arrow. */
+static svg_point word_at(const plan *p, const chart_arrow *a)
+{
+    const svg_point from = {x_of(a->sender), y_of(p, a->from)};
+    const svg_point to = {a->sender == CHART_HOST ? MACHINE_X : HOST_X, y_of(p, a->to)};
+    return (svg_point){(from.x + 3 * to.x) / 4, beside_gap(p, (from.y + 3 * to.y) / 4 + 4)};
+}
+
+/* Whether it is said, and not at the same place of one of the arrows just before. */
+static bool has_word(const plan *p, const chart_arrow *a)
+{
+    const chart_arrow *first = p->chart->arrows, *before = a - first > WORDS_NEAR ? a - WORDS_NEAR : first;
+    for (; before < a; before++)
+        if (before->way == CHART_DOUBLE && before->sender == a->sender && is_drawn(p, (size_t)before->to / 4) &&
+            abs(word_at(p, before).y - word_at(p, a).y) < WORD_HEIGHT)
+            return false;
+    return is_drawn(p, (size_t)a->to / 4);
+}
+
 static void draw_arrow(FILE *out, const plan *p, const chart_arrow *a)
 {
     const svg_colour colour = a->sender == CHART_HOST ? SVG_BLUE : SVG_BROWN;
     const svg_point from = {x_of(a->sender), y_of(p, a->from)};
     const svg_point to = {a->sender == CHART_HOST ? MACHINE_X : HOST_X, y_of(p, a->to)};
     const svg_point middle = {(from.x + to.x) / 2, to.y};
-    const svg_point near_end = {(from.x + 3 * to.x) / 4, beside_gap(p, (from.y + 3 * to.y) / 4 + 4)};
     switch (a->way) {
     case CHART_CAME:
         svg_arrow(out, from, to, SVG_SOLID, colour);
         break;
     case CHART_DOUBLE:
         svg_arrow(out, from, to, SVG_DASHED, colour);
-        if (is_drawn(p, (size_t)a->to / 4))
-            svg_text(out, near_end, SVG_OVER, SVG_MIDDLE, "came twice");
+        if (has_word(p, a))
+            svg_text(out, word_at(p, a), SVG_OVER, SVG_MIDDLE, "came twice");
         break;
     case CHART_LOST:
         svg_line(out, from, middle, SVG_SOLID, colour);

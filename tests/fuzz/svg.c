@@ -139,13 +139,10 @@ static extent read_text(const char *tag)
     return e;
 }
 
-/* Whether a text lies over another. One that is the same at the same place reads as one: two arrows may share it. */
+/* Whether a text lies over another. */
 static bool lies_over(const extent *a, const extent *b)
 {
-    const size_t length = strcspn(a->text, "<");
-    if (abs(a->y - b->y) >= TEXT_HEIGHT || a->to < b->from || b->to < a->from)
-        return false;
-    return a->y != b->y || a->from != b->from || strncmp(a->text, b->text, length + 1) != 0;
+    return abs(a->y - b->y) < TEXT_HEIGHT && a->to >= b->from && b->to >= a->from;
 }
 
 /* No text leaves the picture, and none lies over another. */
