@@ -128,24 +128,29 @@ static bool next_group(const pair *p, chart_side sender, group *g)
  * is the nearest by the clocks as they are. */
 enum trust { TRUST_ONCE, TRUST_ALIKE, TRUST_NEAREST, TRUST_NONE };
 
-static int64_t distance(int64_t a, int64_t b)
+static int64_t way_of(const pair *p, chart_side sender, const item *sent, const item *got)
 {
-    return a < b ? b - a : a - b;
+    return time_at(p, other(sender), got->frame) - time_at(p, sender, sent->frame);
+}
+
+/* The sent frame that is the nearest in time to a received one, from a place on. */
+static size_t nearest(const pair *p, chart_side sender, const group *g, size_t got, size_t from)
+{
+    while (from + 1 < g->sent_count && llabs(way_of(p, sender, &g->sent[from + 1], &g->got[got])) <=
+                                           llabs(way_of(p, sender, &g->sent[from], &g->got[got])))
+        from++;
+    return from;
 }
 
 /* Adds, of one group, what its frames show: the time in the machine's capture less that in the host's. */
-static size_t add_differences(const group *g, chart_side sender, enum trust trust, int64_t *list)
+static size_t add_differences(const pair *p, const group *g, chart_side sender, enum trust trust, int64_t *list)
 {
     size_t count = 0, near = 0;
     if ((trust == TRUST_ONCE && g->sent_count != 1) || (trust != TRUST_NEAREST && g->sent_count != g->got_count))
         return 0;
     for (size_t i = 0; i < g->got_count && g->sent_count > 0; i++) {
-        const int64_t got = g->got[i].frame->time;
-        near = trust == TRUST_NEAREST ? near : i;
-        while (trust == TRUST_NEAREST && near + 1 < g->sent_count &&
-               distance(g->sent[near + 1].frame->time, got) <= distance(g->sent[near].frame->time, got))
-            near++;
-        const int64_t sent = g->sent[near].frame->time;
+        near = trust == TRUST_NEAREST ? nearest(p, sender, g, i, near) : i;
+        const int64_t got = g->got[i].frame->time, sent = g->sent[near].frame->time;
         list[count++] = sender == CHART_HOST ? got - sent : sent - got;
     }
     return count;
@@ -157,37 +162,61 @@ static int compare_times(const void *a, const void *b)
     return (one > two) - (one < two);
 }
 
-/* By how much the machine's clock is ahead, by the frame of one sender that was the least on its way. */
+/* The differences that all frames of one sender show; how many. */
+static size_t gather(const pair *p, chart_side sender, enum trust trust)
+{
+    size_t count = 0;
+    group g = no_group(p, sender);
+    while (next_group(p, sender, &g))
+        count += add_differences(p, &g, sender, trust, p->room + count);
+    return count;
+}
+
+/* Of the differences that are not far from one, that of the frame that was the least on its way; it stays if there is
+ * none. */
+static void find_least(const pair *p, chart_side sender, size_t count, int64_t middle, int64_t *ahead)
+{
+    bool found = false;
+    for (size_t i = 0; i < count; i++) {
+        const int64_t one = p->room[i];
+        if (llabs(one - middle) > NEAR)
+            continue;
+        if (!found || (sender == CHART_HOST ? one < *ahead : one > *ahead))
+            *ahead = one;
+        found = true;
+    }
+}
+
+/* By how much the machine's clock is ahead, as one sender's frames show, and how well. */
 static enum trust measure(const pair *p, chart_side sender, int64_t *ahead)
 {
     enum trust trust = TRUST_ONCE;
-    size_t count = 0, at = 0;
-    for (; trust < TRUST_NONE; trust++) {
-        group g = no_group(p, sender);
-        while (next_group(p, sender, &g))
-            count += add_differences(&g, sender, trust, p->room + count);
-        if (count > 0)
-            break;
-    }
+    size_t count = 0;
+    while (trust < TRUST_NONE && (count = gather(p, sender, trust)) == 0)
+        trust++;
     if (count == 0)
         return TRUST_NONE;
     qsort(p->room, count, sizeof *p->room, compare_times);
-    const int64_t middle = p->room[count / 2];
-    for (at = count / 2; sender == CHART_HOST && at > 0 && middle - p->room[at - 1] <= NEAR;)
-        at--;
-    while (sender == CHART_MACHINE && at + 1 < count && p->room[at + 1] - middle <= NEAR)
-        at++;
-    *ahead = p->room[at];
+    find_least(p, sender, count, p->room[count / 2], ahead);
     return trust;
 }
 
-/* A frame is as long on its way to the one end as to the other, as far as is known. */
+/* A frame is as long on its way to the one end as to the other, as far as is known. What one sender's frames show badly
+ * they show better by what the other's show. */
 static void compare_clocks(pair *p)
 {
-    int64_t by_host = 0, by_machine = 0;
-    const enum trust host = measure(p, CHART_HOST, &by_host), machine = measure(p, CHART_MACHINE, &by_machine);
-    const bool both = host < TRUST_NEAREST && machine < TRUST_NEAREST && distance(by_host, by_machine) < EVENT;
-    p->ahead = both ? by_machine + (by_host - by_machine) / 2 : host <= machine ? by_host : by_machine;
+    int64_t by[2] = {0, 0};
+    p->ahead = 0;
+    const enum trust host = measure(p, CHART_HOST, &by[CHART_HOST]);
+    const enum trust machine = measure(p, CHART_MACHINE, &by[CHART_MACHINE]);
+    const chart_side best = host <= machine ? CHART_HOST : CHART_MACHINE, rest = other(best);
+    p->ahead = by[best];
+    if (host >= TRUST_NEAREST || machine >= TRUST_NEAREST) {
+        by[rest] = by[best];
+        find_least(p, rest, gather(p, rest, TRUST_NEAREST), by[best], &by[rest]);
+    }
+    if (llabs(by[rest] - by[best]) < EVENT)
+        p->ahead = by[best] + (by[rest] - by[best]) / 2;
 }
 
 /* ---- Which is which -------------------------------------------------- */
@@ -195,11 +224,6 @@ static void compare_clocks(pair *p)
 /* Equal frames come in the order in which they were sent. Of all ways to say which received frame is which sent one,
  * that is taken in which the fewest were lost or came twice, and they were the least on their way: each loss and each
  * double counts as much as a second. */
-
-static int64_t way_of(const pair *p, chart_side sender, const item *sent, const item *got)
-{
-    return time_at(p, other(sender), got->frame) - time_at(p, sender, sent->frame);
-}
 
 /* What a frame's way counts. One that came before it was sent counts more than a loss and a double. */
 static int64_t cost_of(int64_t way)
@@ -217,9 +241,7 @@ static size_t make_steps(const pair *p, chart_side sender, const group *g)
             first++;
         while (last < g->sent_count && time_at(p, sender, g->sent[last].frame) <= time + FAR)
             last++;
-        while (near + 1 < g->sent_count && llabs(way_of(p, sender, &g->sent[near + 1], &g->got[i])) <=
-                                               llabs(way_of(p, sender, &g->sent[near], &g->got[i])))
-            near++;
+        near = nearest(p, sender, g, i, near);
         const size_t from = near > first + CHOICES / 2 ? near - CHOICES / 2 : first;
         const size_t end = last > from + CHOICES ? from + CHOICES : last;
         p->steps[count] = (step){.got = i, .first = from, .count = end - from};
