@@ -104,10 +104,19 @@ static void take_sum(span s, recorded_file *file)
     file->sum[DIGITS] = '\0';
 }
 
-/* What stands for a letter behind a backslash; 0 if nothing does. */
+/* What a letter behind a backslash stands for; 0 if for nothing. */
 static char unescaped(uint8_t letter)
 {
-    return letter == 'n' ? '\n' : letter == 'r' ? '\r' : letter == '\\' ? '\\' : '\0';
+    switch (letter) {
+    case 'n':
+        return '\n';
+    case 'r':
+        return '\r';
+    case '\\':
+        return '\\';
+    default:
+        return '\0';
+    }
 }
 
 /* A name, which may be escaped as sha256sum does it. */
@@ -119,7 +128,7 @@ static bool take_name(span s, bool escaped, char name[RECORDED_NAME])
         i += mark;
         if (length == RECORDED_NAME - 1 || i == s.length || (mark && unescaped(s.at[i]) == '\0'))
             return false;
-        name[length++] = mark ? unescaped(s.at[i]) : (char)s.at[i];
+        name[length++] = (char)(mark ? unescaped(s.at[i]) : s.at[i]);
     }
     name[length] = '\0';
     return length > 0;
