@@ -323,7 +323,9 @@ static void draw_gap(FILE *out, const plan *p)
         return;
     const gap g = gap_of(p);
     const size_t rows = p->resume - p->cut;
-    if (rows == g.frames)
+    if (rows == 1)
+        snprintf(text, sizeof text, "1 %s is left out here (--rows)", g.frames == 1 ? "frame" : "row");
+    else if (rows == g.frames)
         snprintf(text, sizeof text, "%zu frames are left out here (--rows)", g.frames);
     else
         snprintf(text, sizeof text, "%zu rows, of them %zu frames, are left out here (--rows)", rows, g.frames);

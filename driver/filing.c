@@ -96,8 +96,7 @@ static int take_bytes(dumping *d, const contents *came)
 {
     part *p = &d->copies[0].part;
     if (d->before < came->length) {
-        printf("Of the %zu bytes in %s the first %" PRIu64
-               " are known to be on the disk: the others are asked again.\n",
+        inform("Of the %zu bytes in %s the first %" PRIu64 " are known to be on the disk: the others are asked again.",
             came->length, p->name, d->before);
         int status = part_cut(p, d->range.length, d->before);
         if (status != 0)
@@ -209,7 +208,7 @@ static const char *ending(const dumping *d, int status)
 static int file_nothing(dumping *d)
 {
     if (d->resume) {
-        printf("Nothing came: the first %" PRIu64 " bytes of %s and its record are as they were.\n", d->before,
+        inform("Nothing came: the first %" PRIu64 " bytes of %s and its record are as they were.", d->before,
             d->copies[0].part.name);
         return record_put(&d->record, d->earlier);
     }
@@ -231,10 +230,10 @@ static int file_unfinished(dumping *d, int status)
     else if (d->twice && kept == 0)
         kept = part_keep(&second->part);
     int recorded = report_end(d, status, ending(d, status), first->part.name);
-    printf("There is no %s; of the %" PRIu64 " bytes that came %" PRIu64 " are in %s.\n", d->path,
-        dumping_came(d, first), first->part.written, first->part.name);
+    inform("There is no %s; of the %" PRIu64 " bytes that came %" PRIu64 " are in %s.", d->path, dumping_came(d, first),
+        first->part.written, first->part.name);
     if (second->session.filled > 0)
-        printf("The %" PRIu64 " bytes of the second dump are in %s.\n", second->part.written, second->part.name);
+        inform("The %" PRIu64 " bytes of the second dump are in %s.", second->part.written, second->part.name);
     return kept != 0 ? kept : recorded;
 }
 
@@ -250,8 +249,8 @@ static int file_failed(dumping *d)
     else
         snprintf(how, sizeof how, "finished and whole, but not under its name: %s", strerror(p->failed));
     report_end(d, STATUS_FILE, how, p->name);
-    printf("There is no %s; %s of the dump is in %s.\n", d->path,
-        p->written < d->range.length ? "the beginning" : "all", p->name);
+    inform("There is no %s; %s of the dump is in %s.", d->path, p->written < d->range.length ? "the beginning" : "all",
+        p->name);
     return STATUS_FILE;
 }
 
@@ -273,7 +272,7 @@ static int file_finished(dumping *d)
     if (d->twice)
         part_remove(&d->copies[1].part);
     int recorded = report_end(d, 0, "finished", d->path);
-    printf("%s is on the disk%s.\n", d->path,
+    inform("%s is on the disk%s.", d->path,
         recorded == 0 ? ", with its record" : "; its record could not be written, and tells of an earlier moment");
     return recorded;
 }

@@ -184,7 +184,7 @@ void line_close(line *l)
 
 static void tell(const char *what, const direction *d)
 {
-    if (d->lost != 0 || d->doubled != 0)
+    if (d->drop.n != 0 || d->twice.n != 0)
         printf("Of %" PRIu64 " frames %s, %" PRIu64 " were lost and %" PRIu64 " doubled on purpose.\n", d->frames, what,
             d->lost, d->doubled);
 }

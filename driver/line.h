@@ -81,7 +81,7 @@ int line_send(line *l, const uint8_t *to, const uint8_t *message, size_t length)
 /* The next message for this end, until the clock shows the deadline. */
 line_event line_receive(line *l, line_frame *frame, int64_t deadline);
 
-/* Prints what was lost and doubled on purpose, if anything was. */
+/* Prints what was lost and doubled on purpose, where --drop or --double was given. */
 void line_tell(const line *l);
 
 /* Throws away what has come and was not received. */

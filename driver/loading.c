@@ -227,8 +227,8 @@ int loading_record_end(loading *l, int status)
         return 0;
     const int failed = put(l, &status, record_put);
     if (failed == 0)
-        printf("The record is in %s.\n", l->record.name);
+        inform("The record is in %s.", l->record.name);
     else
-        printf("%s could not be written at the end: it tells of an earlier moment.\n", l->record.name);
+        inform("%s could not be written at the end: it tells of an earlier moment.", l->record.name);
     return failed;
 }

@@ -244,7 +244,7 @@ static int check_room(const host *h, const dumping *d)
 static int sessions(host *h, dumping *d)
 {
     if (d->settings.length == 0) {
-        printf("%s is whole: the machine is not asked.\n", d->copies[0].part.name);
+        inform("%s is whole: the machine is not asked.", d->copies[0].part.name);
         return 0;
     }
     if (d->before > 0)

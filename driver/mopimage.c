@@ -59,7 +59,7 @@ static int show(const command *c)
     } else if (c->list) {
         image_list(stdout, &file, image, MOP_REGIONS_MOST);
     } else {
-        printf("%s is a good image.\n", c->show);
+        inform("%s is a good image.", c->show);
     }
     free(file.bytes);
     return status;

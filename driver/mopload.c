@@ -141,7 +141,9 @@ static void tell_begun(const loading *l)
     tell_type(l);
     fputs("Loading ", stdout);
     loading_machine(l, stdout);
-    printf(": %s, %" PRIu64 " segment%s of up to %" PRIu32 " byte%s.\n", l->path, l->image.segments,
+    fputs(": ", stdout);
+    plain_words(stdout, l->path);
+    printf(", %" PRIu64 " segment%s of up to %" PRIu32 " byte%s.\n", l->image.segments,
         l->image.segments == 1 ? "" : "s", l->settings.segment_size, l->settings.segment_size == 1 ? "" : "s");
     if (l->parameters.given) {
         fputs(

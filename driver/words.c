@@ -33,30 +33,43 @@ void words_bar_end(void)
     bar_stands = false;
 }
 
-/* A name in the text may have control characters, which do not reach the terminal. */
-static void put_plain(const char *text)
+void plain_words(FILE *out, const char *text)
 {
     for (; *text != '\0'; text++)
         if ((unsigned char)*text < ' ' || *text == 0x7F)
-            fprintf(stderr, "\\x%02X", (unsigned)(unsigned char)*text);
+            fprintf(out, "\\x%02X", (unsigned)(unsigned char)*text);
         else
-            fputc(*text, stderr);
+            fputc(*text, out);
+}
+
+/* A line with its end. */
+static void put_line(FILE *out, const char *format, va_list values)
+{
+    char *text = NULL;
+    if (vasprintf(&text, format, values) < 0)
+        text = NULL;
+    plain_words(out, text == NULL ? format : text);
+    fputc('\n', out);
+    free(text);
+}
+
+void inform(const char *format, ...)
+{
+    va_list values;
+    va_start(values, format);
+    put_line(stdout, format, values);
+    va_end(values);
 }
 
 int complain(int status, const char *format, ...)
 {
-    char *text = NULL;
     va_list values;
     va_start(values, format);
     words_bar_end();
     fflush(stdout);
-    if (vasprintf(&text, format, values) < 0)
-        text = NULL;
     fprintf(stderr, "%s: ", program);
-    put_plain(text == NULL ? format : text);
-    fputc('\n', stderr);
+    put_line(stderr, format, values);
     va_end(values);
-    free(text);
     return status;
 }
 

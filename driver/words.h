@@ -38,7 +38,12 @@ const char *words_name(void);
 void words_bar(void);
 void words_bar_end(void);
 
-/* Prints a sentence on standard error and gives the status back. */
+/* Prints a text. A name in it may have control characters, which do not reach the terminal. */
+void plain_words(FILE *out, const char *text);
+
+/* Prints such a text as a line on standard output; and on standard error, behind the program's name, and gives the status
+ * back. */
+void inform(const char *format, ...) __attribute__((format(printf, 1, 2)));
 int complain(int status, const char *format, ...) __attribute__((format(printf, 2, 3)));
 
 /* Whether all that was printed is written: 0, or an exit status with the reason said. */
