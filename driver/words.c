@@ -469,8 +469,8 @@ void load_later_words(FILE *out, const mop_load *session, const mop_load_setting
         fputs("This was so when it was written; a load may have begun since.\n", out);
         return;
     }
-    fputs("This was so when it was written; more may be in by now. Of a machine that was reset since, nothing is "
-          "known.\n",
+    fputs("This was so when it was written; more may be in by now. Of a machine that was reset unheard, before or "
+          "since, nothing is known.\n",
         out);
     if (settings->with_parameters)
         fprintf(out,
