@@ -1,11 +1,13 @@
 // The parameter block (PROTOCOL 4, 'Machine end'): where a machine of version 2.1 stores what a code 20 says in its memory.
+#![tactic(auto)]
+
 ghost use Rattle.std.specs.Prelude.{◌≡◌, ◌<◌, get_or};
 ghost use Rattle.block.specs.Block.{place, roomy, padded, name_cell, cell, over, block};
 
 use parameters::{Parameters, Value};
 
 // What the block does to a byte: it stays, or it becomes another.
-#[derive(Drop)]
+#[derive(Clone, Copy)]
 pub enum Change {
     Stays,
     Becomes(u8),

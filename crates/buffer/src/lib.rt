@@ -1,11 +1,13 @@
 // Frames laid into a lent buffer.
+#![tactic(auto)]
+
 ghost use Rattle.std.specs.Prelude.{◌≡◌, ◌++◌};
 ghost use Rattle.buffer.specs.Lay.{fits, put, laid, Came};
 
 // What a writer answers: the length of the frame that stands at the buffer's start, and refusal 0; or length 0 and a
 // refusal, by the number of PROTOCOL 7, 'Refusals', with the buffer unchanged.
 #[repr(C)]
-#[derive(Drop)]
+#[derive(Clone, Copy)]
 pub struct Written {
     pub length: usize,
     pub refusal: u8,
@@ -22,7 +24,7 @@ pub fn put(src: &[u8], out: &mut [u8], at: usize) -> bool
     if out.len() - at < src.len() {
         return false;
     }
-    bytes::copy(src, &mut out[at..]);
+    out[at..at + src.len()].copy_from_slice(src);
     true
 }
 

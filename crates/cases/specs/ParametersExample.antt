@@ -24,7 +24,7 @@ use Rattle.load_checks.specs.Checks.{string_refusal}
 use Rattle.link.specs.Link.{World, Event, own, hand_to_machine, drop_to_machine, hand_to_host, host_timer, last_left, run}
 use Rattle.link.specs.MachineEnd.{End}
 use Rattle.link_load.specs.Model.{Reset, load_ends, fresh_world, after}
-use Rattle.link_load.specs.Audit.{parameters_load}
+use Rattle.link_load.proofs.Audit.{parameters_load}
 use Rattle.cases.specs.LoadExample.{image, machine_settings, accepted, bytes}
 
 abbrev pub load_settings : LoadSettings

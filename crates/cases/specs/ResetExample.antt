@@ -22,7 +22,7 @@ use Rattle.link.specs.Reset.{anew}
 use Rattle.link.specs.MachineEnd.{End}
 use Rattle.link_load.specs.Model.{Reset, reset, after, last_reset, all_frames, has_heard}
 use Rattle.link_load.specs.Report.{Loaded}
-use Rattle.link_load.specs.Audit.{finished_load, late_load}
+use Rattle.link_load.proofs.Audit.{finished_load, late_load}
 use Rattle.cases.specs.LoadExample.{image, machine_settings, accepted, bytes}
 
 abbrev pub load_settings : LoadSettings

@@ -27,7 +27,7 @@ use Rattle.link.specs.Link.{World, Event, own, hand_to_machine, keep_to_machine,
 use Rattle.link.specs.MachineEnd.{End}
 use Rattle.link_load.specs.Model.{Reset, load_ends, fresh_world, after}
 use Rattle.link_load.specs.Report.{Loaded, Spelled}
-use Rattle.link_load.specs.Audit.{finished-once, block_load}
+use Rattle.link_load.proofs.Audit.{finished-once, block_load}
 use Rattle.cases.specs.LoadExample.{image, accepted, bytes}
 
 abbrev pub load_settings : LoadSettings

@@ -18,7 +18,7 @@ use Rattle.machine_next.specs.Next.{by_number, on_load}
 use Rattle.link.specs.Link.{Event, own, hand_to_machine, keep_to_machine, hand_to_host, run}
 use Rattle.link_load.specs.Model.{Reset, load_ends, fresh_world, after}
 use Rattle.link_load.specs.Report.{Loaded}
-use Rattle.link_load.specs.Audit.{finished-once, clear_load}
+use Rattle.link_load.proofs.Audit.{finished-once, clear_load}
 use Rattle.cases.specs.LoadExample.{image, load_settings, accepted, bytes}
 
 -- a window of one byte at an address

@@ -1,4 +1,6 @@
 // The table of codes (PROTOCOL 2, 'Messages'): which codes are listed, and how long their frames are.
+#![tactic(auto)]
+
 ghost use Rattle.std.specs.Prelude.{◌≡◌};
 ghost use Rattle.message.specs.Read.{rows, find};
 ghost use Rattle.codes.specs.Table.{marked, limit, refusal};

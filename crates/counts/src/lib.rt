@@ -1,4 +1,6 @@
 // What the frames came to that the host of a load or of a dump was handed (PROTOCOL 5, 'Host end', counts).
+#![tactic(auto)]
+
 ghost use Rattle.std.specs.Prelude.{◌≡◌, true, false};
 ghost use Rattle.counts.specs.Counts.{zero, below, only_ignored, begins, tally};
 
@@ -7,7 +9,7 @@ pub const TOP: u64 = 18446744073709551615;
 
 // The frames that ended the waiting or began a load again, moved the session on, moved nothing, and rejected it.
 #[repr(C)]
-#[derive(Drop)]
+#[derive(Clone, Copy)]
 pub struct Counts {
     pub starts: u64,
     pub advances: u64,
@@ -17,7 +19,7 @@ pub struct Counts {
 
 // Where a session stands: c of a load, the bytes filled of a dump; how often a load began again; whether it waits; the
 // verdict.
-#[derive(Drop)]
+#[derive(Clone, Copy)]
 pub struct Standing {
     pub reached: u64,
     pub restarts: u32,

@@ -1,4 +1,6 @@
 // Decimal numbers, written and read.
+#![tactic(auto)]
+
 ghost use Rattle.std.specs.Prelude.{◌≡◌, ◌≤◌, min, length, drop};
 ghost use Rattle.text.specs.Text.{Added};
 ghost use Rattle.decimal.specs.Decimal.{trimmed, decimal, are_digits, is_number, value};

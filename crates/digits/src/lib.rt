@@ -1,4 +1,6 @@
 // Digits: the character of a value, the value of a character, and the last digits of a number, high digit first.
+#![tactic(auto)]
+
 ghost use Rattle.std.specs.Prelude.{◌≡◌, ◌<◌, ◌≤◌, length};
 ghost use Rattle.digits.specs.Digits.{digit, nibble, digits};
 

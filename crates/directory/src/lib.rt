@@ -1,4 +1,6 @@
 // The trailer and the directory entries of an image file, and their refusals (PROTOCOL 3, 'Image files').
+#![tactic(auto)]
+
 ghost use Rattle.std.specs.Prelude.{◌≡◌};
 ghost use Rattle.directory.specs.Directory.{trailer_of, trailer, trailer_refusal, entry_refusal};
 
@@ -12,7 +14,7 @@ const MOST: u32 = 100000;
 pub const ADDRESSES: u64 = 4294967296;
 
 // The trailer's fields.
-#[derive(Drop)]
+#[derive(Clone, Copy)]
 pub struct Trailer {
     pub directory: u32,
     pub count: u32,
@@ -21,7 +23,7 @@ pub struct Trailer {
 }
 
 // A stretch of memory, and the place of its bytes in the file: a region, or a segment of one.
-#[derive(Drop)]
+#[derive(Clone, Copy)]
 pub struct Region {
     pub address: u32,
     pub place: u32,

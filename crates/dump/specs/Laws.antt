@@ -19,7 +19,7 @@ use Rattle.dump_record.specs.Record.{place, asked, reached, tallied}
 use Rattle.dump_next.specs.Next.{takes, react}
 use Rattle.dump_timer.specs.Timer.{on_timer}
 use Rattle.dump_checks.specs.Checks.{refusal}
-use Rattle.dump_checks.specs.Laws.{bound, Accepted}
+use Rattle.dump_checks.proofs.Laws.{bound, Accepted}
 use Rattle.dump.specs.Dump.{counted, filled, does, on_frame, dump_frame}
 use Rattle.dump.specs.Inner.{Missing, Room, Ready}
 

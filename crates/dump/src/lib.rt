@@ -1,4 +1,6 @@
 // The calls of the host's end of a dump (PROTOCOL 5, 'Host end'): the bytes that go in and out.
+#![tactic(auto)]
+
 ghost use Rattle.std.specs.Prelude.{◌≡◌, List, ℕ, ◌+◌, ◌≤◌, ◌<◌, ◌^◌, length};
 ghost use Rattle.buffer.specs.Lay.{refused, Came};
 ghost use Rattle.message.specs.Message.{request_dump};
@@ -13,7 +15,7 @@ use dump_record::{Next, Sends, Session, Settings};
 
 // What a step gives: the next record, and the length of the frame to send, 0 for none, or a refusal.
 #[repr(C)]
-#[derive(Drop)]
+#[derive(Clone, Copy)]
 pub struct Stepped {
     pub session: Session,
     pub answer: Written,
@@ -94,7 +96,7 @@ fn fill(takes: bool, part: &[u8], at: u64, buffer: &mut [u8])
         return;
     }
     let at = at as usize;
-    bytes::copy(part, &mut buffer[at..]);
+    buffer[at..at + part.len()].copy_from_slice(part);
 }
 
 // A step on a frame.

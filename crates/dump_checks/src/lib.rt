@@ -1,5 +1,7 @@
 // What a call of the host's end of a dump refuses of its record, of the settings and of the buffers (PROTOCOL 5, 'Host end', and
 // 7, 'Refusals').
+#![tactic(auto)]
+
 ghost use Rattle.std.specs.Prelude.{◌≡◌, true, not, cond, ◌≤◌, eqb};
 ghost use Rattle.dump_checks.specs.Checks.{settled, blank, sound, refusal};
 

@@ -1,4 +1,6 @@
 // By how much the counts of a dump's record are raised (PROTOCOL 5, 'Host end').
+#![tactic(auto)]
+
 ghost use Rattle.std.specs.Prelude.{◌≡◌};
 ghost use Rattle.dump_count.specs.Count.{replies, frames};
 

@@ -1,4 +1,6 @@
 // What the host's end of a dump does next on a frame (PROTOCOL 5, 'Host end').
+#![tactic(auto)]
+
 ghost use Rattle.std.specs.Prelude.{◌≡◌, ◌≤◌};
 ghost use Rattle.dump_next.specs.Next.{takes, on_offer, on_data, react};
 

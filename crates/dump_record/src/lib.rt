@@ -1,4 +1,6 @@
 // The record of the host's end of a dump (PROTOCOL 5, 'Host end'): its settings, its updates, and what can be done next.
+#![tactic(auto)]
+
 ghost use Rattle.std.specs.Prelude.{◌≡◌, true, false};
 ghost use Rattle.counts.specs.Counts.{below};
 ghost use Rattle.dump_record.specs.Record.{fresh, asked, reached, ignores, asks, completes, standing, with_counts, tallied};
@@ -8,7 +10,7 @@ use counts::{Counts, Standing};
 // Its settings: L bytes from address A; C, the most bytes asked for at a time; R, the repeats allowed per frame; and the
 // version.
 #[repr(C)]
-#[derive(Drop)]
+#[derive(Clone, Copy)]
 pub struct Settings {
     pub length: u64,
     pub address: u32,
@@ -21,7 +23,7 @@ pub struct Settings {
 // of the frame on its way; whether it still waits for an offer (1) or not (0); the verdict: 0 running, 1 finished, 3 given
 // up.
 #[repr(C)]
-#[derive(Drop)]
+#[derive(Clone, Copy)]
 pub struct Session {
     pub filled: u64,
     pub replies: u64,
@@ -33,7 +35,7 @@ pub struct Session {
 }
 
 // What goes out: nothing, a request for what is missing (code 4), or the end of the dump (code 1).
-#[derive(Drop)]
+#[derive(Clone, Copy)]
 pub enum Sends {
     Nothing,
     Request,
@@ -41,7 +43,7 @@ pub enum Sends {
 }
 
 // What it does next: its record, of which `tallied` raises a count, whether a reply's bytes are taken, and what goes out.
-#[derive(Drop)]
+#[derive(Clone, Copy)]
 pub struct Next {
     pub session: Session,
     pub takes: bool,

@@ -1,4 +1,6 @@
 // What the host's end of a dump does next on a timer (PROTOCOL 5, 'Host end').
+#![tactic(auto)]
+
 ghost use Rattle.std.specs.Prelude.{◌≡◌, ◌<◌};
 ghost use Rattle.dump_timer.specs.Timer.{repeated, on_timer};
 

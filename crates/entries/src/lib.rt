@@ -1,4 +1,6 @@
 // Code 20: the entries, the end mark and the transfer address, over a whole string.
+#![tactic(auto)]
+
 ghost use Rattle.std.specs.Prelude.{◌≡◌, true, ℕ, ◌+◌, ◌<◌, ◌≤◌, length, take, drop};
 ghost use Rattle.entries.specs.Grammar.{Fields};
 ghost use Rattle.entries.specs.Entries.{walk};

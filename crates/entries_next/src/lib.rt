@@ -1,9 +1,11 @@
 // Code 20's entries, end mark and transfer address: what a byte is, after the bytes before it (PROTOCOL 2, 'Messages').
+#![tactic(auto)]
+
 ghost use Rattle.std.specs.Prelude.{◌≡◌, ℕ};
 ghost use Rattle.entries_next.specs.Next.{longest_name, longest_address, last_kind, listed, more, next};
 
 // What the next byte is, or how the walk ended.
-#[derive(Drop)]
+#[derive(Clone, Copy)]
 pub enum Place {
     // An entry's type, or the end mark.
     Kind,

@@ -1,48 +1,61 @@
 // Captured frames on standard input, a line of capital hexadecimal each; the fields of each by name on standard output.
+#![tactic(auto)]
+
 use hexadecimal::Line;
-use libc::{STDIN_FILENO, STDOUT_FILENO};
+use std::io::{self, Read, Write};
 
 // The first n bytes of a buffer.
-fn print(out: &[u8], n: usize) {
+fn print<W: Write>(to: &mut W, out: &[u8], n: usize) -> io::Result<()> {
     if n <= out.len() {
-        io::write_all(STDOUT_FILENO, &out[..n]);
+        to.write_all(&out[..n])?;
     }
+    Ok(())
 }
 
 // Prints each line that ends in a piece of the input, and answers the line so far.
-fn feed(line: Line, input: &[u8], frame: &mut [u8], out: &mut [u8]) -> Line {
+fn feed<W: Write>(
+    to: &mut W,
+    line: Line,
+    input: &[u8],
+    frame: &mut [u8],
+    out: &mut [u8],
+) -> io::Result<Line> {
     let mut at = line;
     let mut i = 0;
     while i < input.len() {
         let fed = listing::feed(at, input[i], frame, out);
-        print(out, fed.written.length);
+        print(to, out, fed.written.length)?;
         at = fed.line;
         i += 1;
     }
-    at
+    Ok(at)
 }
 
-// Reads the input to its end. A proved loop ends by a count, here from a number that no run uses up.
-fn read_all(input: &mut [u8], frame: &mut [u8], out: &mut [u8]) -> Line {
+// Reads the input to its end. A proved loop ends by a count, here one that no run uses up.
+fn read_all<R: Read, W: Write>(
+    from: &mut R,
+    to: &mut W,
+    input: &mut [u8],
+    frame: &mut [u8],
+    out: &mut [u8],
+) -> io::Result<Line> {
     let mut line = hexadecimal::start();
-    let mut turns = u64::MAX;
-    while 0 < turns {
-        let got = libc::read(STDIN_FILENO, input);
-        let n = io::count(got, input);
+    for _ in 0..u64::MAX {
+        let n = from.read(input)?;
         if n == 0 {
-            return line;
+            return Ok(line);
         }
-        line = feed(line, &input[..n], frame, out);
-        turns -= 1;
+        line = feed(to, line, &input[..n], frame, out)?;
     }
-    line
+    Ok(line)
 }
 
-fn main() {
-    let mut input = io::large_buffer();
+fn main(rt: HostRuntime) -> io::Result<()> {
+    let mut to = io::writer(&rt);
+    let mut input = [0u8; 65536];
     let mut frame = [0u8; 1501];
     let mut out = [0u8; 3200];
-    let line = read_all(&mut input, &mut frame, &mut out);
+    let line = read_all(&mut rt.reader(), &mut to, &mut input, &mut frame, &mut out)?;
     let last = listing::close(line, &frame, &mut out);
-    print(&out, last.length);
+    print(&mut to, &out, last.length)
 }

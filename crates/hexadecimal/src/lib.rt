@@ -1,4 +1,6 @@
 // Bytes in capital hexadecimal, two digits each: written, and read.
+#![tactic(auto)]
+
 ghost use Rattle.std.specs.Prelude.{◌≡◌, ◌++◌, ◌+◌, ◌*◌, length, ltb};
 ghost use Rattle.buffer.specs.Lay.{Came};
 ghost use Rattle.text.specs.Text.{placed, Added};
@@ -73,7 +75,7 @@ pub fn print(head: &[u8], s: &[u8], tail: &[u8], out: &mut [u8]) -> Written
 // ---- Read, character by character.
 
 // A line so far.
-#[derive(Drop)]
+#[derive(Clone, Copy)]
 pub struct Line {
     // The bytes that the buffer keeps.
     pub length: usize,

@@ -1,4 +1,6 @@
 // The fields of a host time, an entry of code 20 (PROTOCOL 2, 'Messages').
+#![tactic(auto)]
+
 ghost use Rattle.std.specs.Prelude.{◌≡◌, not, ◌&&◌, pos, neg_ℤ};
 ghost use Rattle.std.specs.Int.Signed.{lt_z};
 ghost use Rattle.host_time.specs.HostTime.{within, signed, between, opposite, field};

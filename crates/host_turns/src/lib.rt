@@ -1,4 +1,6 @@
 // The host's turns in a rehearsal: on the machine's first frame, and at its timer (PROTOCOL 8, 'Rehearsal').
+#![tactic(auto)]
+
 ghost use Rattle.std.specs.Prelude.{◌≡◌, List, ℕ, take};
 ghost use Rattle.job.specs.Run.{run, host_sent, host_moves, Left, Joined};
 ghost use Rattle.host_turns.specs.Turns.{host_handed, host_timed, host_turn};

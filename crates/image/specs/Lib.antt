@@ -3,5 +3,3 @@ pub mod Walk
 pub mod PartsLaws
 pub mod Laws
 pub mod Before
-pub mod BeforeLaws
-pub mod Theorem

@@ -1,4 +1,6 @@
 // Image files cut into segments: one walk over the directory (PROTOCOL 3, 'Image files').
+#![tactic(auto)]
+
 ghost use Rattle.std.specs.Prelude.{◌≡◌, ◌+◌, ◌*◌, ◌<◌, ◌≤◌, length};
 ghost use Rattle.directory.specs.Directory.{addresses, entry_at, ending, nowhere};
 ghost use Rattle.image.specs.Image.{parts, cut, no_tally, surveyed};
@@ -11,7 +13,7 @@ pub const WIDEST: u32 = 1490;
 
 // What a walk over the directory finds: a refusal; or 0 with what the trailer says, the number of segments, and the
 // segment looked for.
-#[derive(Drop)]
+#[derive(Clone, Copy)]
 pub struct Tally {
     pub refusal: u8,
     pub regions: u32,
@@ -22,7 +24,7 @@ pub struct Tally {
 
 // The last region passed that begins no later than the segment looked for: the place of its entry, and the index of its
 // first segment.
-#[derive(Drop)]
+#[derive(Clone, Copy)]
 struct Reach {
     at: usize,
     first: u64,

@@ -1,5 +1,7 @@
 // A rehearsal's job (PROTOCOL 8, 'Rehearsal'): what its input asks for, the ends that it begins with, and
 // its last line.
+#![tactic(auto)]
+
 ghost use Rattle.std.specs.Prelude.{◌≡◌};
 ghost use Rattle.buffer.specs.Lay.{Came};
 ghost use Rattle.text.specs.Text.{placed};
@@ -13,7 +15,7 @@ use queue::Queue;
 use script::Script;
 
 // The settings of both ends.
-#[derive(Drop)]
+#[derive(Clone, Copy)]
 pub struct Setup {
     pub host: load_record::Settings,
     pub machine: machine_record::Settings,
@@ -21,7 +23,7 @@ pub struct Setup {
 
 // What an input asks for: the settings, its numbers and letters, and the image's lengths in bytes and in segments; or a
 // refusal, by the number of PROTOCOL 7, 'Refusals'.
-#[derive(Drop)]
+#[derive(Clone, Copy)]
 pub struct Job {
     pub setup: Setup,
     pub script: Script,
@@ -31,7 +33,7 @@ pub struct Job {
 }
 
 // Both ends, and the queues of what each has sent.
-#[derive(Drop)]
+#[derive(Clone, Copy)]
 pub struct Ends {
     pub session: Session,
     pub machine: Machine,
@@ -40,7 +42,7 @@ pub struct Ends {
 }
 
 // What a step leaves: both ends, and the length of the frame in the reply buffer that was sent, 0 for none.
-#[derive(Drop)]
+#[derive(Clone, Copy)]
 pub struct Moved {
     pub ends: Ends,
     pub sent: usize,

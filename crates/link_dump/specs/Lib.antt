@@ -1,9 +1,1 @@
 pub mod Model
-pub mod FilledLaws
-pub mod HostLaws
-pub mod AloneLaws
-pub mod RepeatsLaws
-pub mod InvariantLaws
-pub mod DumpedLaws
-pub mod Theorem
-pub mod Repeats

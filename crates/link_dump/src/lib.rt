@@ -1,1 +1,2 @@
 // The link theorem for a dump: theorems alone (specs/).
+#![tactic(auto)]

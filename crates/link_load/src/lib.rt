@@ -1,1 +1,2 @@
 // The link theorem for a load: theorems alone (specs/).
+#![tactic(auto)]

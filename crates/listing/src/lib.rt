@@ -1,4 +1,6 @@
 // Captured frames as text: lines of capital hexadecimal in, a line of fields by name out for each.
+#![tactic(auto)]
+
 ghost use Rattle.std.specs.Prelude.{◌≡◌, ◌++◌, ◌≤◌, length};
 ghost use Rattle.buffer.specs.Lay.{Came};
 ghost use Rattle.text.specs.Text.{chars, placed};
@@ -152,7 +154,7 @@ fn finish(at: Line, buffer: &[u8], out: &mut [u8]) -> Written
 }
 
 // What a character of the input leaves: the line so far, and what is to be printed now.
-#[derive(Drop)]
+#[derive(Clone, Copy)]
 pub struct Fed {
     pub line: Line,
     pub written: Written,

@@ -1,4 +1,6 @@
 // The calls of the host's end of a load (PROTOCOL 5, 'Host end').
+#![tactic(auto)]
+
 ghost use Rattle.std.specs.Prelude.{◌≡◌, true, ◌+◌, ◌*◌, ◌≤◌};
 ghost use Rattle.buffer.specs.Lay.{Came, refused};
 ghost use Rattle.message.specs.Write.{sent};
@@ -16,7 +18,7 @@ use message::Fields;
 
 // What a step gives: the next record, and the length of the frame to send, 0 for none, or a refusal.
 #[repr(C)]
-#[derive(Drop)]
+#[derive(Clone, Copy)]
 pub struct Stepped {
     pub session: Session,
     pub answer: Written,

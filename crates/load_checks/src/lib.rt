@@ -1,4 +1,6 @@
 // What a call of the host's end of a load refuses, but for its frame (PROTOCOL 5, 'Host end', and 7, 'Refusals').
+#![tactic(auto)]
+
 ghost use Rattle.std.specs.Prelude.{◌≡◌, ◌+◌, ◌≤◌};
 ghost use Rattle.directory.specs.Directory.{addresses};
 ghost use Rattle.load_checks.specs.Checks.{frames_of, few, consistent, string_refusal, denied, ruling};
@@ -8,7 +10,7 @@ use load_record::{Session, Settings};
 
 // Whether a call is accepted, but for its frame: a refusal; or 0 with n, the number of frames, the image's transfer address,
 // and the segment that might go out.
-#[derive(Drop)]
+#[derive(Clone, Copy)]
 pub struct Ruling {
     pub refusal: u8,
     pub many: u64,

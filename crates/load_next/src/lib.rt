@@ -1,4 +1,6 @@
 // What the host's end of a load does next on a frame (PROTOCOL 5, 'Host end').
+#![tactic(auto)]
+
 ghost use Rattle.std.specs.Prelude.{◌≡◌, ◌+◌, ◌%◌};
 ghost use Rattle.load_next.specs.Next.{answered, again, on_request, on_answer, react};
 

@@ -1,4 +1,6 @@
 // The record of the host's end of a load, and its named updates (PROTOCOL 5, 'Host end').
+#![tactic(auto)]
+
 ghost use Rattle.std.specs.Prelude.{◌≡◌, true, false, ◌<◌, ◌≤◌};
 ghost use Rattle.counts.specs.Counts.{below};
 ghost use Rattle.load_record.specs.Record.{fresh, reached, restarted, repeated, ignores, goes_out, ends, more, standing, with_counts, tallied};
@@ -11,7 +13,7 @@ pub const MOST_RESTARTS: u32 = 65535;
 // Its settings: S, the bytes of a segment; R, the repeats allowed per frame; whether a parameter string ends the load (1)
 // or not (0); the version; and whether a request half-way begins the load again (1) or not (0).
 #[repr(C)]
-#[derive(Drop)]
+#[derive(Clone, Copy)]
 pub struct Settings {
     pub segment_size: u32,
     pub repeats: u32,
@@ -24,7 +26,7 @@ pub struct Settings {
 // on its way; how often the load began again; whether it still waits for a request (1) or not (0); the verdict: 0 running,
 // 1 finished, 2 rejected, 3 given up, 4 unconfirmed.
 #[repr(C)]
-#[derive(Drop)]
+#[derive(Clone, Copy)]
 pub struct Session {
     pub position: u64,
     pub sent: u64,
@@ -36,7 +38,7 @@ pub struct Session {
 }
 
 // What it does next: its record, of which `tallied` raises a count, and whether the frame at the record's position goes out.
-#[derive(Drop)]
+#[derive(Clone, Copy)]
 pub struct Next {
     pub session: Session,
     pub sends: bool,

@@ -1,4 +1,6 @@
 // What the host's end of a load does next on a timer (PROTOCOL 5, 'Host end').
+#![tactic(auto)]
+
 ghost use Rattle.std.specs.Prelude.{◌≡◌};
 ghost use Rattle.load_timer.specs.Timer.{on_timer};
 

@@ -1,4 +1,6 @@
 // Whether a load's settings are in range and its record is sound, but for what needs the image (PROTOCOL 7, 'Refusals').
+#![tactic(auto)]
+
 ghost use Rattle.std.specs.Prelude.{◌≡◌, ◌&&◌};
 ghost use Rattle.load_valid.specs.Valid.{blank, settled, restarts_allowed, sound};
 

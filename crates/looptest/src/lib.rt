@@ -1,4 +1,6 @@
 // The calls of the host's loop test (PROTOCOL 5, 'Host end').
+#![tactic(auto)]
+
 ghost use Rattle.std.specs.Prelude.{◌≡◌, ◌≤◌, ◌<◌, length};
 ghost use Rattle.buffer.specs.Lay.{written, refused};
 ghost use Rattle.step.specs.Step.{gives, Leaves};
@@ -9,7 +11,7 @@ use looptest_record::{Session, Settings};
 
 // What a step gives: the next record, and the length of the frame to send, 0 for none, or a refusal.
 #[repr(C)]
-#[derive(Drop)]
+#[derive(Clone, Copy)]
 pub struct Stepped {
     pub session: Session,
     pub answer: Written,

@@ -1,4 +1,6 @@
 // What the host's loop test does next on a frame (PROTOCOL 5, 'Host end').
+#![tactic(auto)]
+
 ghost use Rattle.std.specs.Prelude.{◌≡◌};
 ghost use Rattle.looptest_next.specs.Next.{same, returned, react};
 

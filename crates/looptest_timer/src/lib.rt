@@ -1,11 +1,13 @@
 // What the host's loop test does next on a timer (PROTOCOL 5, 'Host end').
+#![tactic(auto)]
+
 ghost use Rattle.std.specs.Prelude.{◌≡◌, ◌<◌};
 ghost use Rattle.looptest_timer.specs.Timer.{repeated, waits, again, on_timer};
 
 use looptest_record::{Session, Settings};
 
 // What it does on a timer: its record but for the count of frames, and whether its frame goes out.
-#[derive(Drop)]
+#[derive(Clone, Copy)]
 pub struct Next {
     pub session: Session,
     pub sends: bool,

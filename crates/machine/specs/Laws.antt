@@ -20,7 +20,7 @@ use Rattle.parameters.specs.Parameters.{kept}
 use Rattle.machine_record.specs.Record.{keeping}
 use Rattle.machine_next.specs.declared.Next.{Next}
 use Rattle.machine_next.specs.Next.{react, sending, keeps, stored, does}
-use Rattle.machine_next.specs.ActedLaws.{Acted, ignored, answered, loaded, dumped, completed, looped, react-acted}
+use Rattle.machine_next.proofs.ActedLaws.{Acted, ignored, answered, loaded, dumped, completed, looped, react-acted}
 use Rattle.machine.specs.Inner.{Short}
 
 -- ---- what is sent

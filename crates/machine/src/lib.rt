@@ -1,4 +1,6 @@
 // The machine end's calls (PROTOCOL 4, 'Machine end'): a step on a frame; those on timers are machine_timer's.
+#![tactic(auto)]
+
 ghost use Rattle.std.specs.Prelude.{◌≡◌, cond, ℕ, ◌+◌, ◌≤◌, length};
 ghost use Rattle.buffer.specs.Lay.{Came};
 ghost use Rattle.memory.specs.Memory.{deposited};

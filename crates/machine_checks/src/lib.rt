@@ -1,4 +1,6 @@
 // What a call of the machine end refuses of its record, of the settings and of the buffers (PROTOCOL 7, 'Refusals').
+#![tactic(auto)]
+
 ghost use Rattle.std.specs.Prelude.{◌≡◌};
 ghost use Rattle.machine_checks.specs.Checks.{refusal};
 

@@ -1,4 +1,6 @@
 // What the machine end does next (PROTOCOL 4, 'Machine end').
+#![tactic(auto)]
+
 ghost use Rattle.std.specs.Prelude.{◌≡◌, false, ◌||◌, cond, List, ℕ, min, length};
 ghost use Rattle.message.specs.Read.{part};
 ghost use Rattle.machine_record.specs.Record.{idle, is};
@@ -11,7 +13,7 @@ use message::Fields;
 
 // What goes out: nothing, the reply to a load (code 10) with its number and error, so many bytes of memory (code 14), or the
 // same data again (code 26).
-#[derive(Drop)]
+#[derive(Clone, Copy)]
 pub enum Sends {
     Nothing,
     Load(u8, u8),
@@ -21,7 +23,7 @@ pub enum Sends {
 
 // What it does next: its record, whether the frame's data goes to memory, whether its entries go into the record, and what
 // goes out.
-#[derive(Drop)]
+#[derive(Clone, Copy)]
 pub struct Next {
     pub machine: Machine,
     pub takes: bool,

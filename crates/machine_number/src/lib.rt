@@ -1,4 +1,6 @@
 // The number rule: what a load's number makes of it (PROTOCOL 4, 'Machine end').
+#![tactic(auto)]
+
 ghost use Rattle.std.specs.Prelude.{◌≡◌};
 ghost use Rattle.machine_number.specs.Number.{after, heed};
 

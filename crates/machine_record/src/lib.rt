@@ -1,4 +1,6 @@
 // The machine end's settings and record (PROTOCOL 4, 'Machine end'), and what a step gives.
+#![tactic(auto)]
+
 ghost use Rattle.std.specs.Prelude.{◌≡◌};
 ghost use Rattle.buffer.specs.Lay.{refused};
 ghost use Rattle.machine_record.specs.Record.{in_state, keeping};
@@ -9,7 +11,7 @@ use window::Window;
 
 // Its settings: D, the most bytes of a dump reply; its device and processor; its version; its ROM window.
 #[repr(C)]
-#[derive(Drop)]
+#[derive(Clone, Copy)]
 pub struct Settings {
     pub reply_bytes: u32,
     pub device: u8,
@@ -21,7 +23,7 @@ pub struct Settings {
 // Its state: 0 Idle, 1 Offering, 2 Requesting, 3 Loading, 4 Started; Loading's expected number and last reply's error,
 // Started's transfer address, and the parameters that a code 20 gave it.
 #[repr(C)]
-#[derive(Drop)]
+#[derive(Clone, Copy)]
 pub struct Machine {
     pub transfer: u32,
     pub state: u8,
@@ -32,7 +34,7 @@ pub struct Machine {
 
 // What a step gives: the next state, and the length of the frame to send, 0 for none, or a refusal.
 #[repr(C)]
-#[derive(Drop)]
+#[derive(Clone, Copy)]
 pub struct Stepped {
     pub machine: Machine,
     pub answer: Written,

@@ -1,4 +1,6 @@
 // What the machine end sends by itself: at the start and at each timer (PROTOCOL 4, 'Machine end').
+#![tactic(auto)]
+
 ghost use Rattle.std.specs.Prelude.{◌≡◌, List, [], ℕ, ◌≤◌, length};
 ghost use Rattle.buffer.specs.Lay.{Came};
 ghost use Rattle.message.specs.Message.{request_program, request_dump_service};

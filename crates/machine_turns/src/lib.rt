@@ -1,4 +1,6 @@
 // The machine's turns in a rehearsal: on the host's first frame, and at its timer (PROTOCOL 8, 'Rehearsal').
+#![tactic(auto)]
+
 ghost use Rattle.std.specs.Prelude.{◌≡◌, List, ℕ, take};
 ghost use Rattle.job.specs.Run.{run, machine_sent, machine_moves, Left, Joined};
 ghost use Rattle.machine_turns.specs.Turns.{machine_handed, machine_timed, machine_turn};

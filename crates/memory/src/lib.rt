@@ -1,4 +1,6 @@
 // The machine's memory (PROTOCOL 4, 'Machine end'): loads go to it, dump replies come from it.
+#![tactic(auto)]
+
 ghost use Rattle.std.specs.Prelude.{◌≡◌, ◌++◌, ℕ, ◌+◌, ◌≤◌, ◌<◌, length, replicate};
 ghost use Rattle.buffer.specs.Lay.{laid, Came};
 ghost use Rattle.message.specs.Message.{dump_data};

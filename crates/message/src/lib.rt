@@ -1,5 +1,7 @@
 // The messages: definitions and laws (specs/), and a frame's fields in numbers. Reading a frame is the crate reader, writing
 // one the crate writer.
+#![tactic(auto)]
+
 ghost use Rattle.std.specs.Prelude.{◌≡◌};
 ghost use Rattle.message.specs.Read.{refused_fields};
 
@@ -8,7 +10,7 @@ ghost use Rattle.message.specs.Read.{refused_fields};
 // `id_at` and `id_length` that of a software id. A refused frame has its refusal, code 255, which no frame has, and 0 in
 // all else.
 #[repr(C)]
-#[derive(Drop)]
+#[derive(Clone, Copy)]
 pub struct Fields {
     pub data_at: usize,
     pub data_length: usize,

@@ -1,4 +1,6 @@
 // Calls that include/mop.h declares: frames and image files, for a line driver in C.
+#![tactic(auto)]
+
 ghost use Rattle.std.specs.Prelude.{◌≡◌, cond, ℕ};
 ghost use Rattle.version.specs.Version.{known};
 ghost use Rattle.buffer.specs.Lay.{Came, refuse};

@@ -1,2 +1,1 @@
 pub mod Ignored
-pub mod Laws

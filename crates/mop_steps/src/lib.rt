@@ -1,4 +1,6 @@
 // Calls that include/mop.h declares: the steps of both ends, each record by value, for a line driver in C.
+#![tactic(auto)]
+
 ghost use Rattle.std.specs.Prelude.{◌≡◌};
 ghost use Rattle.step.specs.Step.{Leaves};
 ghost use Rattle.machine_record.specs.Record.{requesting, offering};

@@ -1,4 +1,6 @@
 // Calls that include/mop.h declares: the host's records updated in their place, for a line driver in C.
+#![tactic(auto)]
+
 ghost use Rattle.step.specs.Step.{Leaves};
 ghost use Rattle.load.specs.Load.{load_frame, load_timer};
 ghost use Rattle.dump.specs.Dump.{dump_frame, dump_timer};

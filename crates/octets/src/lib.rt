@@ -1,4 +1,6 @@
 // Numbers low byte first.
+#![tactic(auto)]
+
 ghost use Rattle.std.specs.Prelude.{◌≡◌, ◌+◌, ◌*◌, min, get_or, take, drop};
 ghost use Rattle.octets.specs.Number.{number, low};
 

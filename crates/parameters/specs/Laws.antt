@@ -6,6 +6,7 @@ use Rattle.std.proofs.Common.{ap, sym, ◌∙◌, arith, add-one, length-take, d
 use mathlib.Core.List.{List, [], ◌∷◌, ◌++◌}
 use Rattle.std.proofs.Math.ListN.{length, length-drop}
 use Rattle.std.proofs.lemmas.List.{length-replicate, replicate-append-replicate}
+use Rattle.std.proofs.Math.Seq.{take-length}
 use Rattle.parameters.specs.declared.Value.{Value}
 use Rattle.parameters.specs.Parameters.{latest, value}
 
@@ -84,3 +85,7 @@ module _ (s : List ℕ) (at n k : ℕ) (h : at + n ≤ length s) (e : k ≡ min 
       let whole : length (take n (drop at s)) ≡ n = length-take-le n (drop at s) (omega (arith, length-drop at s)) in
       let rest : 16 - k ≡ 16 - n = omega arith in
       rw (q, same, size, take-take k k (drop at s) (omega arith), zeros-behind k 16 (omega arith), whole, rest, first, ← e)
+
+-- the bytes that are copied, with what is behind them, in the form that `copied` takes
+pub laid_first : (new part rest : List ℕ) (n : ℕ) → new ≡ part → length part ≡ n → new ++ drop n rest ≡ take (length part) part ++ drop (length part) rest
+laid_first new part rest n e z = rw (take-length part, z, e)

@@ -1,10 +1,12 @@
 // The parameters that a code 20 frame gives a machine, which keeps them (PROTOCOL 4, 'Machine end').
+#![tactic(auto)]
+
 ghost use Rattle.std.specs.Prelude.{◌≡◌, cond, [], ◌+◌, ◌≤◌, length, take, drop};
 ghost use Rattle.parameters.specs.Parameters.{latest, value, kept, none};
 
 // A name, an address or a time: as many bytes as the length says, then zeros.
 #[repr(C)]
-#[derive(Drop)]
+#[derive(Clone, Copy)]
 pub struct Value {
     pub length: u8,
     pub bytes: [u8; 16],
@@ -12,7 +14,7 @@ pub struct Value {
 
 // Of each entry type the value that is kept; an absent one has length 0.
 #[repr(C)]
-#[derive(Drop)]
+#[derive(Clone, Copy)]
 pub struct Parameters {
     pub target_name: Value,
     pub target_address: Value,
@@ -22,7 +24,7 @@ pub struct Parameters {
 }
 
 // Where a value stands in the entries.
-#[derive(Drop)]
+#[derive(Clone, Copy)]
 struct Stretch {
     at: usize,
     length: usize,
@@ -63,7 +65,7 @@ fn last(entries: &[u8], kind: u8) -> Value
     let at = found.at;
     let end = at + n;
     let mut kept = [0u8; 16];
-    bytes::copy(&entries[at..end], &mut kept);
+    kept[..n].copy_from_slice(&entries[at..end]);
     Value {
         length: n as u8,
         bytes: kept,

@@ -2,7 +2,7 @@
 use Rattle.std.specs.Prelude.{ℕ, zero, suc, ◌+◌, ◌-◌, ◌<◌, ◌≤◌, ◌≡◌, refl, List, [], ◌∷◌, ◌++◌, length, get_or, take, drop}
 use Rattle.std.proofs.Common.{sym, ◌∙◌, arith, add-one, drop_of_length-le, length-drop, drop-drop, le-ltb, lt-ltb}
 use Rattle.std.proofs.Math.Seq.{drop-cons}
-use Rattle.bytes.specs.Bytes.{index_of, slice}
+use Rattle.text.specs.Find.{index_of, slice}
 use Rattle.buffer.specs.declared.Written.{Written}
 use Rattle.buffer.specs.Lay.{refused, Came}
 use Rattle.text.specs.Text.{chars, placed}

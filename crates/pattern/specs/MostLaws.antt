@@ -6,7 +6,7 @@ use native.Mathlib.Omega.{arith}
 use Rattle.std.proofs.Math.ListN.{length-append}
 use Rattle.std.proofs.Common.{length-take, length-drop}
 use borrow.Author.Tests.{leb-true}
-use Rattle.bytes.specs.Bytes.{index_of}
+use Rattle.text.specs.Find.{index_of}
 use Rattle.octets.specs.TestLaws.{by_cases, both}
 use Rattle.digits.specs.Laws.{length_digits}
 use Rattle.decimal.specs.Decimal.{decimal}

@@ -2,7 +2,7 @@
 -- letter, a for the first of some numbers: # is that number, @ that number as an address, % the bytes from there on, as many as
 -- the next number says, and & the row of that number, as it stands.
 use Rattle.std.specs.Prelude.{ℕ, zero, suc, ◌+◌, ◌-◌, Bool, ◌||◌, cond as pick, List, [], ◌∷◌, ◌++◌, length, get_or, take, drop, eqb, ltb}
-use Rattle.bytes.specs.Bytes.{index_of}
+use Rattle.text.specs.Find.{index_of}
 use Rattle.buffer.specs.Lay.{Output, refuse}
 use Rattle.text.specs.Text.{chars, placed}
 use Rattle.decimal.specs.Decimal.{decimal}

@@ -1,4 +1,6 @@
 // Texts from tables: a row with numbers, addresses and bytes in the places of its marks.
+#![tactic(auto)]
+
 ghost use Rattle.std.specs.Prelude.{◌≡◌, ◌-◌, ◌≤◌, ◌<◌, length, get_or, drop};
 ghost use Rattle.buffer.specs.Lay.{Came};
 ghost use Rattle.text.specs.Text.{Added};
@@ -12,7 +14,7 @@ fn next_row(table: &[u8], at: usize) -> usize
     requires { at ≤ length table.now }
     ensures { (result ≤ length table.now) × (drop result table.now ≡ behind (drop at table.now)) }
 {
-    let feed = bytes::scan::find(table, at, table.len(), b'\n');
+    let feed = text::find(table, at, b'\n');
     if feed < table.len() {
         return feed + 1;
     }
@@ -37,7 +39,7 @@ fn row(table: &[u8], k: usize) -> &[u8]
     ensures { result.now ≡ row (skip k table.now) }
 {
     let from = row_at(table, k);
-    let to = bytes::scan::find(table, from, table.len(), b'\n');
+    let to = text::find(table, from, b'\n');
     &table[from..to]
 }
 

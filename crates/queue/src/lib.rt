@@ -1,9 +1,11 @@
 // The places of a queue of 16 frames: which is in front, which is free, and how long each frame is.
+#![tactic(auto)]
+
 ghost use Rattle.std.specs.Prelude.{◌≡◌, ◌<◌, length, take};
 ghost use Rattle.queue.specs.Queue.{empty, is_full, front, length_of, free, join, leave, first, stored, sent, keeps};
 
 // The first place in front, how many frames wait, and the length of the frame in each place.
-#[derive(Drop)]
+#[derive(Clone, Copy)]
 pub struct Queue {
     pub first: usize,
     pub many: usize,

@@ -1,4 +1,6 @@
 // Reading frames (PROTOCOL 2, 'Messages'): a frame's fields in numbers.
+#![tactic(auto)]
+
 ghost use Rattle.std.specs.Prelude.{◌≡◌, ◌≤◌, [], length};
 ghost use Rattle.message.specs.Read.{rows, find, numbers, fields};
 ghost use Rattle.reader.specs.Row.{at_least, by_row};

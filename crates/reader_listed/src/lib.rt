@@ -1,4 +1,6 @@
 // Reading the two frames whose fields must be listed, codes 8 and 20 (PROTOCOL 2, 'Messages').
+#![tactic(auto)]
+
 ghost use Rattle.std.specs.Prelude.{◌≡◌, cond, ℕ, ◌+◌, ◌≤◌, length, ltb};
 ghost use Rattle.message.specs.Message.{id_length};
 ghost use Rattle.message.specs.Read.{byte, numbers, refused_fields, ended, judged};

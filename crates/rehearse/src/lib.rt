@@ -1,4 +1,6 @@
 // The events of a rehearsal (PROTOCOL 8, 'Rehearsal').
+#![tactic(auto)]
+
 ghost use Rattle.std.specs.Prelude.{◌≡◌};
 ghost use Rattle.job.specs.Run.{run, Left};
 ghost use Rattle.rehearse.specs.Inner.{machine_sends, leaving, afterwards};

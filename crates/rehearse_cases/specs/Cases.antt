@@ -2,7 +2,7 @@
 -- (PROTOCOL 8, 'Rehearsal').
 use Rattle.std.specs.Prelude.{ℕ, ◌≡◌, refl, List, [], ◌∷◌, ◌++◌}
 use Prim.Native.String.{String}
-use Rattle.bytes.specs.Bytes.{index_of}
+use Rattle.text.specs.Find.{index_of}
 use Rattle.octets.specs.Number.{number, low}
 use Rattle.window.specs.Window.{touches}
 use Rattle.memory.specs.Memory.{fits}

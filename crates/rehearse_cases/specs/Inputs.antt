@@ -1,7 +1,7 @@
 -- Inputs and what the definition says of them: the worked input of PROTOCOL 8, 'Rehearsal', and slips.
 use Rattle.std.specs.Prelude.{ℕ, ◌≡◌, refl, List, [], ◌∷◌, ◌++◌}
 use Prim.Native.String.{String}
-use Rattle.bytes.specs.Bytes.{index_of}
+use Rattle.text.specs.Find.{index_of}
 use Rattle.digits.specs.Digits.{nibble}
 use Rattle.text.specs.Text.{chars}
 use Rattle.decimal.specs.Decimal.{are_digits, value}

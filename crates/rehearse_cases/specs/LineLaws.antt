@@ -2,12 +2,12 @@
 use Rattle.std.specs.Prelude.{ℕ, ◌+◌, ◌<◌, ◌≤◌, Bool, true, false, ◌≡◌, refl, List, [], ◌∷◌, ◌++◌, length, get_or, take, drop, eqb}
 use Rattle.std.proofs.Common.{ap, ◌∙◌, arith, add-one, add_assoc, length-drop, drop_of_length-le, drop-drop, eqb-true}
 use Rattle.std.proofs.Math.Seq.{split_at}
-use Rattle.bytes.specs.Bytes.{index_after, index_of}
+use Rattle.text.specs.Find.{index_after, index_of}
 use Rattle.script.specs.Script.{up_to, behind, image_at, events_at, end, settings_line, image_line, events_line}
 
 -- what stands at the place of the first b, and that there is none before it
 found : (b : ℕ) (s : List ℕ) → index_of b s < length s → get_or s (index_of b s) 0 ≡ b
-unfolding index_of index_after
+unfolding index_of
 found b [] h = absurd (omega arith)
 found b (c ∷ rest) h = go (eqb c b) refl (found b rest) h
   where
@@ -16,7 +16,7 @@ found b (c ∷ rest) h = go (eqb c b) refl (found b rest) h
     go false e f l = f (omega arith)
 
 pub none_before : (b : ℕ) (s : List ℕ) → index_of b (take (index_of b s) s) ≡ index_of b s
-unfolding index_of index_after
+unfolding index_of
 none_before b [] = refl
 none_before b (c ∷ rest) = go (eqb c b) refl (none_before b rest)
   where

@@ -1,11 +1,3 @@
 pub mod Ring
-pub mod RingLaws
 pub mod World
-pub mod TurnLaws
-pub mod StepLaws
-pub mod InputLaws
-pub mod LetterLaws
-pub mod FoldLaws
 pub mod Rehearsed
-pub mod Theorem
-pub mod Cases

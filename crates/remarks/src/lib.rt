@@ -1,5 +1,7 @@
 // The lines of `make explain`: words beside a rehearsal's transcript. Each function answers refusal 9 for a buffer that is
 // too short.
+#![tactic(auto)]
+
 ghost use Rattle.std.specs.Prelude.{◌≡◌};
 ghost use Rattle.buffer.specs.Lay.{Came};
 ghost use Rattle.text.specs.Text.{placed};

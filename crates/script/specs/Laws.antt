@@ -1,7 +1,7 @@
 -- What the loops of the check lean on.
 use Rattle.std.specs.Prelude.{ℕ, ◌+◌, ◌-◌, ◌<◌, ◌≤◌, Bool, true, false, ◌≡◌, List, [], ◌∷◌, length, get_or, take, drop, eqb}
 use Rattle.std.proofs.Common.{arith, add-one, drop_of_length-le, length-drop, drop-cons, lt-ltb, le-ltb}
-use Rattle.bytes.specs.Bytes.{index_after, index_of}
+use Rattle.text.specs.Find.{index_after, index_of}
 use Rattle.script.specs.Script.{up_to, behind, only}
 
 -- ---- letters
@@ -34,7 +34,7 @@ pub cut-first : (b : ℕ) (s : List ℕ) (r : ℕ) → r ≡ 0 + index_of b s �
 cut-first b s r e = let f : r ≡ index_of b s = omega arith in rw f
 
 index_most : (b : ℕ) (s : List ℕ) → index_of b s ≤ length s
-unfolding index_of index_after
+unfolding index_of
 index_most b [] = omega arith
 index_most b (c ∷ rest) = go (eqb c b) (index_most b rest)
   where

@@ -1,7 +1,7 @@
 -- The rehearsal program's input (PROTOCOL 8, 'Rehearsal'): three lines, each ended by a line feed.
 -- A text is the list of its characters' codes; `index_of b` is the place of the first b in one, its length if there is none.
 use Rattle.std.specs.Prelude.{ℕ, ◌+◌, Bool, true, ◌&&◌, cond as pick, List, [], ◌∷◌, length, take, drop, eqb, leb, ltb}
-use Rattle.bytes.specs.Bytes.{index_of}
+use Rattle.text.specs.Find.{index_of}
 use Rattle.text.specs.Text.{chars}
 use Rattle.decimal.specs.Decimal.{is_number, value}
 use Rattle.hexadecimal.specs.Hexadecimal.{hexadecimal, is_hexadecimal}

@@ -1,11 +1,13 @@
 // The rehearsal program's input: its check, and where its parts stand (PROTOCOL 8, 'Rehearsal').
+#![tactic(auto)]
+
 ghost use Rattle.std.specs.Prelude.{◌≡◌, ◌+◌, ◌≤◌, ◌<◌, length, drop};
-ghost use Rattle.bytes.specs.Bytes.{index_of};
+ghost use Rattle.text.specs.Find.{index_of};
 ghost use Rattle.script.specs.Script.{only, malformed, checked};
 ghost use Rattle.script.specs.Inner.{number, settings, unsettled};
 
 // What the three lines say; a refusal (10) with all else 0.
-#[derive(Drop)]
+#[derive(Clone, Copy)]
 pub struct Script {
     pub memory: usize,
     pub image_at: usize,
@@ -18,7 +20,7 @@ pub struct Script {
 }
 
 // The first line's numbers, if it is three of them.
-#[derive(Drop)]
+#[derive(Clone, Copy)]
 struct Numbers {
     memory: usize,
     size: u32,
@@ -33,7 +35,7 @@ fn find(s: &[u8], b: u8, from: usize) -> usize
     if s.len() < from {
         return from;
     }
-    bytes::scan::find(s, from, s.len(), b)
+    text::find(s, from, b)
 }
 
 // Every character is one of the letters.

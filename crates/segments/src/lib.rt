@@ -1,10 +1,12 @@
 // What is answered of an image file and of one of its segments (PROTOCOL 3, 'Image files').
+#![tactic(auto)]
+
 ghost use Rattle.std.specs.Prelude.{◌≡◌, cond as pick};
 ghost use Rattle.segments.specs.Segments.{checked, no_segment, found};
 
 // How a file is cut into segments, or its refusal, by the number of PROTOCOL 7, 'Refusals': mop_image of the header.
 #[repr(C)]
-#[derive(Drop)]
+#[derive(Clone, Copy)]
 pub struct Image {
     pub segments: u64,
     pub transfer: u32,
@@ -15,7 +17,7 @@ pub struct Image {
 // Where a segment's bytes stand in the file and how many they are, its memory address, and whether it is the last (1) or
 // not (0); or a refusal, by the number of PROTOCOL 7, 'Refusals': mop_segment of the header.
 #[repr(C)]
-#[derive(Drop)]
+#[derive(Clone, Copy)]
 pub struct Segment {
     pub at: usize,
     pub length: usize,

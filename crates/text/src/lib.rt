@@ -1,7 +1,10 @@
 // Texts in lent buffers: a part of one, one laid whole, and one added behind what stands there.
-ghost use Rattle.std.specs.Prelude.{◌≡◌, take, drop};
+#![tactic(auto)]
+
+ghost use Rattle.std.specs.Prelude.{◌≡◌, ◌+◌, ◌≤◌, length, take, drop};
 ghost use Rattle.buffer.specs.Lay.{Came};
 ghost use Rattle.text.specs.Text.{placed, Added};
+ghost use Rattle.text.specs.Find.{index_of, slice};
 
 use buffer::Written;
 
@@ -43,4 +46,19 @@ pub fn add(src: &[u8], out: &mut [u8], at: usize) -> usize
         return at + src.len();
     }
     out.len() + 1
+}
+
+// The place of the first b from a place on, or the text's end; a place behind the end is answered itself.
+pub fn find(s: &[u8], from: usize, b: u8) -> usize
+    ensures { (result ≡ from + index_of b (slice from (length s.now) s.now))
+        × (from ≤ length s.now → result ≤ length s.now) }
+{
+    let mut at = from;
+    while at < s.len() {
+        if s[at] == b {
+            return at;
+        }
+        at += 1;
+    }
+    at
 }

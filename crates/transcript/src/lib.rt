@@ -1,5 +1,7 @@
 // The lines of a rehearsal's transcript (PROTOCOL 8, 'Rehearsal'). Each function answers refusal 9
 // for a buffer that is too short.
+#![tactic(auto)]
+
 ghost use Rattle.std.specs.Prelude.{◌≡◌, cond, ◌++◌};
 ghost use Rattle.buffer.specs.Lay.{Came};
 ghost use Rattle.text.specs.Text.{chars, placed, Added};

@@ -1,4 +1,6 @@
 // The versions of the protocol, by their numbers (PROTOCOL, at its beginning).
+#![tactic(auto)]
+
 ghost use Rattle.std.specs.Prelude.{◌≡◌};
 ghost use Rattle.version.specs.Version.{older, known, by_version};
 

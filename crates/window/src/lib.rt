@@ -1,10 +1,12 @@
 // The machine's ROM window (PROTOCOL 4, 'Machine end'): addresses that no load and no parameter block may touch.
+#![tactic(auto)]
+
 ghost use Rattle.std.specs.Prelude.{◌≡◌};
 ghost use Rattle.window.specs.Window.{none, allowed, touches};
 
 // V bytes from address W on; none if V is 0.
 #[repr(C)]
-#[derive(Drop)]
+#[derive(Clone, Copy)]
 pub struct Window {
     pub start: u64,
     pub length: u64,

@@ -1,7 +1,7 @@
 -- A phrase with its numbers is short.
 use Rattle.std.specs.Prelude.{ℕ, ◌+◌, ◌≤◌, ◌≡◌, refl, true, List, [], ◌∷◌, ◌++◌, length}
 use Rattle.std.proofs.Common.{arith, length-append, le-ltb}
-use Rattle.bytes.specs.Bytes.{index_of}
+use Rattle.text.specs.Find.{index_of}
 use Rattle.buffer.specs.declared.Written.{Written}
 use Rattle.buffer.specs.Lay.{Came}
 use Rattle.text.specs.Text.{chars, placed}

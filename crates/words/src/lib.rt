@@ -1,4 +1,6 @@
 // The words beside a rehearsal's transcript: which phrase, with which numbers, and the phrase as a line.
+#![tactic(auto)]
+
 ghost use Rattle.std.specs.Prelude.{◌≡◌, cond};
 ghost use Rattle.buffer.specs.Lay.{Came};
 ghost use Rattle.text.specs.Text.{placed};
@@ -11,7 +13,7 @@ use message::Fields;
 pub const FULL: usize = 13;
 
 // A phrase by its row, and the numbers that it can name.
-#[derive(Drop)]
+#[derive(Clone, Copy)]
 pub struct Words {
     pub row: usize,
     pub v: [usize; 5],

@@ -1,5 +1,7 @@
 // Writing frames (PROTOCOL 2, 'Messages'): a writer for each code but 8 and 20, into a lent buffer.
 // Each answers the frame's length, or 2, then 9; the buffer behind the frame stays, and a refusal leaves it all.
+#![tactic(auto)]
+
 ghost use Rattle.std.specs.Prelude.{◌≡◌, ℕ, [], ◌∷◌, ◌++◌};
 ghost use Rattle.octets.specs.Number.{low};
 ghost use Rattle.buffer.specs.Lay.{Came, laid};

@@ -1,4 +1,6 @@
 // Writing the two frames whose fields must be listed, codes 8 and 20 (PROTOCOL 2, 'Messages'): 4, then 2, then 9, as the other writers.
+#![tactic(auto)]
+
 ghost use Rattle.std.specs.Prelude.{◌≡◌, ℕ, ◌&&◌, eqb};
 ghost use Rattle.buffer.specs.Lay.{Came};
 ghost use Rattle.message.specs.Message.{request_program, parameters, form_listed, id_length};

@@ -1,0 +1,14 @@
+use borrow.Author.Rules.{rules}
+use lib.ListN.{length}
+use Rattle.step.specs.Laws.{call-refused, call-accepted}
+use Rattle.dump_timer.specs.Timer.{on_timer}
+use Rattle.dump.specs.Dump.{does}
+use Rattle.dump_checks.proofs.Laws.{accepted}
+use Rattle.dump.specs.Laws.{ready_timer}
+use Rattle.dump.proofs.timer.Goals as goal
+
+pub tell-requires : goal.tell-requires
+tell-requires c = let a = c.args in
+    let none = rw c.refusal-refusal.ensures at c.if-refusal-ne0.false in
+    let allowed = accepted a.settings a.session (length a.buffer.now) (length a.reply.now) none in
+    rw c.on_timer-next.ensures (ready_timer a.settings a.session _ _ allowed)

@@ -1,0 +1,17 @@
+pub mod AgreeLaws
+pub mod AloneLaws
+pub mod BoundedLaws
+pub mod ByteLaws
+pub mod CallLaws
+pub mod CountedLaws
+pub mod EachLaws
+pub mod FewLaws
+pub mod FlightLaws
+pub mod LinkLaws
+pub mod MachineEndLaws
+pub mod NumberedLaws
+pub mod ResetLaws
+pub mod RestartLaws
+pub mod TakenLaws
+pub mod Theorem
+pub mod WindowLaws

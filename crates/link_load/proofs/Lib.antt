@@ -1,0 +1,17 @@
+pub mod AloneLaws
+pub mod Audit
+pub mod BlockLaws
+pub mod FramesLaws
+pub mod HostLaws
+pub mod ImageLaws
+pub mod KeptLaws
+pub mod LoadedLaws
+pub mod MeaningLaws
+pub mod RefusalLaws
+pub mod RegionsLaws
+pub mod Repeats
+pub mod Raised
+pub mod RepeatsLaws
+pub mod ReportLaws
+pub mod SenderLaws
+pub mod Theorem

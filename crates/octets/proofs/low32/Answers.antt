@@ -1,0 +1,8 @@
+use borrow.Author.Rules.{rules}
+use mathlib.Core.Path.{refl}
+use Rattle.octets.specs.Number.{low}
+use Rattle.octets.proofs.low32.Goals as goal
+
+pub returns : goal.returns
+unfolding low
+returns c = refl

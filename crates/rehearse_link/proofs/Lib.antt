@@ -1,0 +1,8 @@
+pub mod FoldLaws
+pub mod InputLaws
+pub mod LetterLaws
+pub mod RingLaws
+pub mod StepLaws
+pub mod Theorem
+pub mod TurnLaws
+pub mod Cases

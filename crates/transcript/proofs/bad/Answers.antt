@@ -1,0 +1,6 @@
+use Rattle.transcript.specs.Laws.{bad_none, bad_some}
+use borrow.Author.Rules.{rules}
+use Rattle.transcript.proofs.bad.Goals as goal
+
+pub returns : goal.returns
+returns c = let a = c.args in bad_some a.refusal a.out.now c.if-refusal-eq0.false c.refused-n.ensures c.part.ensures c.place.ensures
