@@ -6,11 +6,11 @@ CC11    = gcc -std=c11 $(WARN) -O2 -Iinclude
 CC99    = gcc -std=c99 $(WARN) -O2 -Iinclude
 OUT     = target/tests
 LIB     = target/staticlib/libmop.a
-SOURCES = $(shell find crates -name '*.rt' -o -name '*.antt') crates.txt
+SOURCES = $(shell find crates -name out -prune -o -name '*.rt' -print -o -name '*.antt' -print) crates.txt
 
 .PHONY: test run explain frames lib compare compare-rehearsal bench needs trusted trusted-list header layout examples guards sanitize lint driver driver-sanitized fuzz driver-test line-bench simh dist
 
-# rt ci begins by removing target/, so it comes first; its last line is repeated at the end where all else passed.
+# rt ci comes first; its last line is repeated at the end where all else passed.
 test: needs
 	@bash tests/run
 
@@ -41,18 +41,17 @@ EXPORTS = mop_frames mop_steps mop_update
 
 $(LIB): $(SOURCES)
 	@$(NEEDS_KIT)
-	@mkdir -p target
-	@rt check $(EXPORTS) >target/lib.log 2>&1 || { cat target/lib.log; exit 1; }
-	@for crate in $(EXPORTS); do rt staticlib $$crate >target/lib.log 2>&1 || { cat target/lib.log; exit 1; }; done
+	@mkdir -p target/staticlib
+	@for crate in $(EXPORTS); do (cd crates/$$crate && rt lib) >target/lib.log 2>&1 || { cat target/lib.log; exit 1; }; done
 	@rt version >target/staticlib/kit
-	@(echo create $@; for crate in $(EXPORTS); do echo addlib target/staticlib/lib$$crate.a; done; echo save) | ar -M
+	@(echo create $@; for crate in $(EXPORTS); do echo addlib crates/$$crate/out/lib$$crate.a; done; echo save) | ar -M
 
 # When all crates were last checked, those of theorems alone too, and by which kit: what a release tells.
 target/checked: $(SOURCES)
 	@$(NEEDS_KIT)
 	@mkdir -p target
 	@rm -f $@
-	@rt check >target/check.log 2>&1 || { cat target/check.log; exit 1; }
+	@rt ci >target/check.log 2>&1 || { cat target/check.log; exit 1; }
 	@printf 'kit: %s\nchecked: %s\n' "$$(rt version)" "$$(date -u +%Y-%m-%dT%H:%M:%SZ)" >$@.new
 	@mv -f $@.new $@
 
