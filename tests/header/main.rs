@@ -273,31 +273,65 @@ fn library(name: &str) -> String {
     text(&format!("crates/{name}/src/lib.rt"))
 }
 
-/// The crates that export calls.
-const EXPORTS: [&str; 3] = ["mop_frames", "mop_steps", "mop_update"];
+/// The crates that export calls: those that crates.txt makes a library for C of, `NAME staticlib: ..`.
+fn exports() -> Vec<String> {
+    let text = text("crates.txt");
+    let lines = text.lines().filter(|line| !line.starts_with('#'));
+    let names = lines.filter_map(|line| line.split_once(':')?.0.strip_suffix(" staticlib"));
+    names.map(str::to_string).collect()
+}
 
 fn calls() -> Vec<(String, Vec<Part>)> {
-    EXPORTS.into_iter().flat_map(calls_of).collect()
+    exports().iter().flat_map(|place| calls_of(place)).collect()
 }
+
+/// A function for C: it keeps its name in the library only if `no_mangle` stands before it.
+const CALL: &str = "pub extern \"C\" fn ";
+const EXPORTED: &str = "#[unsafe(no_mangle)]\n";
 
 fn calls_of(place: &str) -> Vec<(String, Vec<Part>)> {
     let source = library(place);
-    let calls = between(&source, "pub extern \"C\" fn ", "ensures").map(|call| {
-        let (name, rest) = call.split_once('(').unwrap_or((call, ""));
+    let before = source.split(CALL);
+    let calls = before.zip(between(&source, CALL, "\n{"));
+    let calls = calls.map(|(before, call)| {
+        let signature = signature(call);
+        let (name, rest) = signature.split_once('(').unwrap_or((signature, ""));
         let (parameters, answer) = rest.split_once(") ->").unwrap_or((rest, ""));
         let mut parts = listed(place, parameters);
         parts.iter_mut().for_each(Part::rename);
         parts.push(Part::new(place, &format!(": {}", answer.trim())));
-        (name.to_string(), parts)
+        let exported = before.ends_with(EXPORTED);
+        let name = if exported {
+            name.to_string()
+        } else {
+            format!("{name}, under another name")
+        };
+        (name, parts)
     });
     calls.collect()
 }
 
+/// A function's parameters and answer, without its clauses.
+fn signature(call: &str) -> &str {
+    let ends = ["\n    requires ", "\n    ensures "].map(|clause| call.find(clause));
+    let end = ends.into_iter().flatten().min();
+    &call[..end.unwrap_or(call.len())]
+}
+
+/// The fields of a struct that is laid out as C does it: `repr(C)` is among its attributes.
 fn fields((place, name): &Struct) -> Vec<Part> {
     let source = library(place);
-    let head = format!("#[repr(C)]\npub struct {name} {{");
-    let body = between(&source, &head, "}").next().unwrap_or("");
-    listed(place, body)
+    let (before, rest) = source
+        .split_once(&format!("\npub struct {name} {{"))
+        .unwrap_or_default();
+    let mut attributes = before
+        .lines()
+        .rev()
+        .take_while(|line| line.starts_with("#["));
+    if !attributes.any(|line| line == "#[repr(C)]") {
+        return Vec::new();
+    }
+    listed(place, rest.split_once('}').map_or(rest, |(body, _)| body))
 }
 
 fn listed(place: &str, parts: &str) -> Vec<Part> {
@@ -314,13 +348,19 @@ fn declared(place: &str, kind: &str) -> Struct {
     if source.contains(&format!("\npub struct {kind} {{")) {
         return (place.to_string(), kind.to_string());
     }
-    let end = format!("::{kind};");
     let used = source.lines().find_map(|line| {
         let path = line.trim_start_matches("pub ").strip_prefix("use ")?;
-        path.strip_suffix(&end)
+        used_from(path.strip_suffix(';')?, kind)
     });
     let used = used.unwrap_or_else(|| panic!("crates/{place}: no struct {kind}"));
     declared(used, kind)
+}
+
+/// The crate of a `use`, `crate::Name` or `crate::{Name, Name}`, if it has the name.
+fn used_from<'a>(path: &'a str, kind: &str) -> Option<&'a str> {
+    let (place, names) = path.rsplit_once("::")?;
+    let names = names.trim_start_matches('{').trim_end_matches('}');
+    names.split(", ").any(|name| name == kind).then_some(place)
 }
 
 impl Part {

@@ -55,6 +55,13 @@ impl Document {
             .collect()
     }
 
+    /// Whether the document names a file for all its theorems: then its definitions may stand beside them.
+    pub fn names_file(&self, path: &str) -> bool {
+        let theorems = self.theorems();
+        let mut files = theorems.iter().filter(|(_, name)| name.ends_with(".antt"));
+        files.any(|(place, name)| path == format!("crates/{place}/proofs/{name}"))
+    }
+
     /// The document with the list that was found.
     pub fn filled(&self, found: &[Entry], crates: &[String]) -> Result<String, String> {
         for entry in found {
@@ -80,7 +87,7 @@ impl Document {
                     if let Some(name) = part.words.iter().find(|name| !crates.contains(name)) {
                         return Err(format!("docs/TRUSTED.md: there is no crate {name}"));
                     }
-                    text += &list(found, &part.words, part.kind == "library");
+                    text += &self.list(found, &part.words, part.kind == "library");
                 }
                 "sums" => _ = write!(text, "\n{}.\n\n", self.sums(found)),
                 _ => text += &part.body,
@@ -111,6 +118,37 @@ impl Document {
              statements, {inner} for the functions inside the library; {programs} for the programs"
         )
     }
+
+    /// The entries of some crates, file by file: line, count of lines, name.
+    fn list(&self, found: &[Entry], crates: &[String], library: bool) -> String {
+        let theorems = self.theorems();
+        let mut text = String::from("\n");
+        let mut sum = 0;
+        for name in crates {
+            let mut own: Vec<&Entry> = found.iter().filter(|entry| place(entry) == name).collect();
+            own.sort_by_key(|entry| {
+                let order = order(name, &entry.path, &theorems);
+                (order, entry.path.clone(), entry.line)
+            });
+            let mut path = "";
+            for entry in own {
+                if path != entry.path {
+                    path = &entry.path;
+                    _ = writeln!(text, "    {path}");
+                }
+                let inside = if entry.inner && library {
+                    "  (inside)"
+                } else {
+                    ""
+                };
+                let (line, lines, name) = (entry.line, entry.lines, &entry.name);
+                _ = writeln!(text, "    {line:>6} {lines:>4}  {name}{inside}");
+                sum += entry.lines;
+            }
+        }
+        _ = write!(text, "    {sum:>11}  lines\n\n");
+        text
+    }
 }
 
 /// The crate of an entry.
@@ -118,43 +156,17 @@ fn place(entry: &Entry) -> &str {
     entry.path.split('/').nth(1).unwrap_or("")
 }
 
-/// The entries of some crates, file by file: line, count of lines, name.
-fn list(found: &[Entry], crates: &[String], library: bool) -> String {
-    let mut text = String::from("\n");
-    let mut sum = 0;
-    for name in crates {
-        let mut own: Vec<&Entry> = found.iter().filter(|entry| place(entry) == name).collect();
-        own.sort_by_key(|entry| (order(name, &entry.path), entry.path.clone(), entry.line));
-        let mut path = "";
-        for entry in own {
-            if path != entry.path {
-                path = &entry.path;
-                _ = writeln!(text, "    {path}");
-            }
-            let inside = if entry.inner && library {
-                "  (inside)"
-            } else {
-                ""
-            };
-            let (line, lines, name) = (entry.line, entry.lines, &entry.name);
-            _ = writeln!(text, "    {line:>6} {lines:>4}  {name}{inside}");
-            sum += entry.lines;
-        }
+/// A file's place in its crate: the source; then specs/, as Lib.antt lists it; then the theorems' files of
+/// proofs/, as the document names them.
+fn order(name: &str, path: &str, theorems: &[(&str, &str)]) -> (usize, usize) {
+    if let Some(file) = path.strip_prefix(&format!("crates/{name}/proofs/")) {
+        let at = theorems.iter().position(|theorem| *theorem == (name, file));
+        return (2, at.unwrap_or(0));
     }
-    _ = write!(text, "    {sum:>11}  lines\n\n");
-    text
-}
-
-/// A file's place in its crate: the source, then specs/ as Lib.antt lists it.
-fn order(name: &str, path: &str) -> usize {
+    let Some(file) = path.strip_prefix(&format!("crates/{name}/specs/")) else {
+        return (0, 0);
+    };
     let library = text(&format!("crates/{name}/specs/Lib.antt")).unwrap_or_default();
-    let module = path
-        .rsplit('/')
-        .next()
-        .unwrap_or("")
-        .trim_end_matches(".antt");
-    let listed = library
-        .lines()
-        .position(|line| line == format!("pub mod {module}"));
-    listed.map_or(0, |at| at + 1)
+    let line = format!("pub mod {}", file.trim_end_matches(".antt"));
+    (1, library.lines().position(|l| l == line).unwrap_or(0))
 }

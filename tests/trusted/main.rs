@@ -5,8 +5,9 @@
 //!
 //! docs/TRUSTED.md names the theorems and the crates of each group, in reading
 //! order, and has the list. Ends with 1 if the list is another, if a definition
-//! on it stands in a file of laws, or if a name is not understood. With
-//! `--write` the list is written into the document.
+//! on it stands in a file of laws, or in a file of proofs whose theorems are not
+//! named, or if a name or a line is not understood. With `--write` the list is
+//! written into the document.
 
 mod document;
 mod source;
@@ -70,11 +71,12 @@ fn difference(old: &str, new: &str) -> String {
     )
 }
 
-/// The crates, in the order of crates.txt.
+/// The crates, in the order of crates.txt: each line has a name, what else the crate is, and a colon.
 fn crates() -> Result<Vec<String>, String> {
     let text = text("crates.txt")?;
-    let names = text.lines().filter_map(|line| line.split_once(':'));
-    Ok(names.map(|(name, _)| name.trim().to_string()).collect())
+    let lines = text.lines().filter(|line| !line.starts_with('#'));
+    let names = lines.filter_map(|line| line.split_once(':')?.0.split_whitespace().next());
+    Ok(names.map(str::to_string).collect())
 }
 
 /// The theorems that the document names.
@@ -117,16 +119,27 @@ fn found(world: &mut World, document: &Document) -> Result<Vec<Entry>, String> {
     for item in rest_on(world, contracts, &theorems) {
         let statement = theorems.contains(&item);
         let entry = world.entry(&item, statement);
-        if !statement && entry.path.ends_with("Laws.antt") {
-            let at = format!("{}:{}", entry.path, entry.line);
-            let error = format!(
-                "{at}: {} is trusted and stands in a file of laws",
-                entry.name
-            );
+        if let Some(place) = misplaced(&entry, document) {
+            let (path, line, name) = (&entry.path, entry.line, &entry.name);
+            let error = format!("{path}:{line}: {name} is trusted and stands in {place}");
             world.errors.insert(error);
         }
         let inner = !outer.contains(&item);
         entries.push(Entry { inner, ..entry });
     }
     Ok(entries)
+}
+
+/// Where a definition stands that may not stand there: among laws, or in proofs/ in a file that the document
+/// does not name for its theorems.
+fn misplaced(entry: &Entry, document: &Document) -> Option<&'static str> {
+    if entry.statement {
+        None
+    } else if entry.path.ends_with("Laws.antt") {
+        Some("a file of laws")
+    } else if entry.path.contains("/proofs/") && !document.names_file(&entry.path) {
+        Some("a file of proofs")
+    } else {
+        None
+    }
 }

@@ -9,6 +9,8 @@ use std::collections::HashMap;
 pub struct Struct {
     pub line: usize,
     pub lines: usize,
+    /// Whether it is an enum, whose words are cases too.
+    pub cases: bool,
     /// The words of its body.
     pub body: Vec<Word>,
 }
@@ -19,7 +21,7 @@ pub struct Function {
     pub exported: bool,
     /// Its parameters and answer.
     pub signature: Vec<Word>,
-    /// Its `requires` and `ensures`.
+    /// Its `requires` and `ensures`, each a group in braces.
     pub contract: Vec<Word>,
 }
 
@@ -34,7 +36,14 @@ pub struct Source {
     pub ghost: File,
 }
 
-pub fn read(path: &str, text: &str) -> Source {
+impl Source {
+    /// Whether a name is that of a struct or enum, or is used from another crate.
+    pub fn knows(&self, name: &str) -> bool {
+        self.structs.contains_key(name) || self.used.contains_key(name)
+    }
+}
+
+pub fn read(path: &str, text: &str) -> Result<Source, String> {
     let mut source = Source {
         path: path.to_string(),
         ..Source::default()
@@ -42,43 +51,68 @@ pub fn read(path: &str, text: &str) -> Source {
     source.ghost.path = path.to_string();
     let lines: Vec<&str> = text.lines().collect();
     for (i, line) in lines.iter().enumerate() {
-        let plain = line.trim_start_matches("pub ");
-        if let Some(used) = line.strip_prefix("ghost use ") {
-            import(&mut source.ghost, used);
-        } else if let Some((place, name)) =
-            plain.strip_prefix("use ").and_then(|u| u.rsplit_once("::"))
-        {
-            source
-                .used
-                .insert(name.trim_end_matches(';').to_string(), place.to_string());
-        } else if let Some(head) = ["struct ", "enum "]
-            .iter()
-            .find_map(|k| plain.strip_prefix(k))
-        {
-            let name = head.split([' ', '(', '{']).next().unwrap_or(head);
-            let part = whole(&lines, i);
-            source.structs.insert(
-                name.to_string(),
-                Struct {
-                    line: i + 1,
-                    lines: part.len(),
-                    body: words(&part[1..]),
-                },
-            );
-        } else if is_function(line) {
-            let part = head(&lines, i);
-            let split = part
-                .iter()
-                .position(|(_, line)| is_contract(line))
-                .unwrap_or(part.len());
-            source.functions.push(Function {
-                exported: line.starts_with("pub extern"),
-                signature: words(&part[..split]),
-                contract: words(&part[split..]),
-            });
+        if is_function(line) {
+            source.functions.push(function(path, &lines, i)?);
+        } else {
+            item(&mut source, &lines, i)?;
         }
     }
-    source
+    Ok(source)
+}
+
+/// What begins at a line, if it is no public function. What is not known might have a contract.
+fn item(source: &mut Source, lines: &[&str], at: usize) -> Result<(), String> {
+    let line = lines[at];
+    let plain = line.trim_start_matches("pub ");
+    let kind = ["struct ", "enum "]
+        .iter()
+        .find_map(|kind| plain.strip_prefix(kind));
+    if let Some(used) = line.strip_prefix("ghost use ") {
+        import(&mut source.ghost, used);
+    } else if let Some(used) = plain.strip_prefix("use ") {
+        let used = used
+            .strip_suffix(';')
+            .ok_or(not_understood(&source.path, at))?;
+        source.used.extend(names(used));
+    } else if let Some(head) = kind {
+        let name = head.split([' ', '(', '{']).next().unwrap_or(head);
+        let part = whole(lines, at);
+        let declared = Struct {
+            line: at + 1,
+            lines: part.len(),
+            cases: plain.starts_with("enum "),
+            body: words(&part[1..]),
+        };
+        source.structs.insert(name.to_string(), declared);
+    } else if !is_inner(line) {
+        return Err(not_understood(&source.path, at));
+    }
+    Ok(())
+}
+
+fn not_understood(path: &str, at: usize) -> String {
+    format!("{path}:{}: not understood", at + 1)
+}
+
+/// The names of a `use`, each with its crate: `crate::Name` or `crate::{Name, Name}`.
+fn names(used: &str) -> Vec<(String, String)> {
+    let (place, names) = match used.split_once("::{") {
+        Some((place, names)) => (place, names.trim_end_matches('}')),
+        None => used.rsplit_once("::").unwrap_or(("", used)),
+    };
+    let names = names.split(',').map(str::trim);
+    names
+        .map(|name| (name.to_string(), place.to_string()))
+        .collect()
+}
+
+/// Whether a line has neither a type nor a contract of a public function: it is empty, a comment, an
+/// attribute, further on in what began above it, or begins a function of the crate's own or a constant.
+fn is_inner(line: &str) -> bool {
+    let first = ["//", "#", " ", "{", "}", ")", "]", "fn "];
+    let plain = line.trim_start_matches("pub ");
+    let constant = plain.starts_with("const ") && !plain.contains(" fn ");
+    line.is_empty() || first.iter().any(|first| line.starts_with(first)) || constant
 }
 
 fn is_contract(line: &str) -> bool {
@@ -90,6 +124,44 @@ fn is_function(line: &str) -> bool {
     line.starts_with("pub fn ") || line.starts_with("pub extern \"C\" fn ")
 }
 
+fn function(path: &str, lines: &[&str], at: usize) -> Result<Function, String> {
+    let part = head(lines, at);
+    let split = part.iter().position(|(_, line)| is_contract(line));
+    let split = split.unwrap_or(part.len());
+    Ok(Function {
+        exported: lines[at].starts_with("pub extern"),
+        signature: words(&part[..split]),
+        contract: groups(words(&part[split..])).ok_or(not_understood(path, at))?,
+    })
+}
+
+/// The clauses of a contract without what stands before each one's brace: `requires` or `ensures`, and a
+/// name if it has one. None if something else stands there, or a brace is open at the end.
+fn groups(contract: Vec<Word>) -> Option<Vec<Word>> {
+    let mut groups = Vec::new();
+    let mut before: Vec<String> = Vec::new();
+    let mut depth = 0;
+    for word in contract {
+        if depth == 0 && word.text == "{" {
+            let clause = matches!(before.first()?.as_str(), "requires" | "ensures");
+            if !clause || before.len() > 2 {
+                return None;
+            }
+            before.clear();
+        }
+        match word.text.as_str() {
+            "{" => depth += 1,
+            "}" => depth -= 1,
+            _ if depth == 0 => before.push(word.text.clone()),
+            _ => {}
+        }
+        if depth > 0 || word.text == "}" {
+            groups.push(word);
+        }
+    }
+    (depth == 0 && before.is_empty()).then_some(groups)
+}
+
 /// The lines of a struct, up to its brace at the margin.
 fn whole<'a>(lines: &[&'a str], from: usize) -> Vec<(usize, &'a str)> {
     part(lines, from, |line| {
@@ -97,11 +169,21 @@ fn whole<'a>(lines: &[&'a str], from: usize) -> Vec<(usize, &'a str)> {
     })
 }
 
-/// The lines of a function's head: its signature and its contract.
+/// The lines of a function's head: its signature and its contract. The body's brace stands alone behind a
+/// contract, and at the end of a signature that has none.
 fn head<'a>(lines: &[&'a str], from: usize) -> Vec<(usize, &'a str)> {
-    part(lines, from, |line| {
-        line == "{" || (line.ends_with(" {") && !is_contract(line))
-    })
+    let contract = lines[from..].iter().position(|line| is_contract(line));
+    let body = lines[from..]
+        .iter()
+        .position(|line| line.ends_with(" {") && !is_contract(line));
+    let bare = body.is_some_and(|body| contract.is_none_or(|contract| body < contract));
+    let mut part = part(lines, from, |line| {
+        line == "{" || (bare && line.ends_with(" {"))
+    });
+    if part.last().is_some_and(|(_, line)| *line == "{") {
+        part.pop();
+    }
+    part
 }
 
 fn part<'a>(lines: &[&'a str], from: usize, last: impl Fn(&str) -> bool) -> Vec<(usize, &'a str)> {

@@ -1,5 +1,5 @@
-//! The declarations of a file of specs/: what each is called, where it stands,
-//! and its words.
+//! The declarations of a file of specs/ or proofs/: what each is called, where
+//! it stands, and its words.
 
 use crate::words::{Scopes, Word, is_name, without_comment, words};
 use std::collections::HashMap;
@@ -176,9 +176,9 @@ fn piece(file: &mut File, lines: &[Line], within: &[usize]) -> Result<(), String
             declaration.head.remove(0);
         }
         name => {
-            // a clause of the declaration before: `name a b =`, or `a + b =` for `_+_`
+            // a clause of the declaration before: `name a b =`, or `a + b =` for `◌+◌`
             let last = file.declarations.last_mut();
-            let infix = |d: &Declaration| d.name.starts_with('_') && d.name.ends_with('_');
+            let infix = |d: &Declaration| d.name.starts_with('◌') && d.name.ends_with('◌');
             let Some(last) = last.filter(|d| d.name == name || infix(d)) else {
                 return Err(format!("{}:{}: {name} has no type", file.path, first.line));
             };

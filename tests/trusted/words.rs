@@ -65,6 +65,11 @@ pub fn without_comment(line: &str) -> &str {
     line.split(" -- ").next().unwrap_or(line)
 }
 
+/// A word's name: `x` of `x.field.field`, and of a path or a name in a module its first part.
+pub fn head(word: &str) -> &str {
+    word.split_once('.').map_or(word, |(head, _)| head)
+}
+
 pub fn is_name(word: &str) -> bool {
     let own = [
         "→", "=", ":", "|", "λ", "×", "let", "in", "record", "where", "←", "↦", "_", ".",
@@ -78,21 +83,31 @@ pub fn is_name(word: &str) -> bool {
 
 /// Names bound by a text, innermost last.
 #[derive(Clone, Default)]
-pub struct Scopes(Vec<HashSet<String>>);
+pub struct Scopes {
+    bound: Vec<HashSet<String>>,
+    /// The modules that the file names: a name in one is free whatever the text binds.
+    modules: HashSet<String>,
+}
 
 impl Scopes {
-    pub fn new() -> Scopes {
-        Scopes(vec![HashSet::new()])
+    pub fn new<'a>(modules: impl Iterator<Item = &'a String>) -> Scopes {
+        Scopes {
+            bound: vec![HashSet::new()],
+            modules: modules.cloned().collect(),
+        }
     }
 
     pub fn bind(&mut self, name: &str) {
-        if let Some(scope) = self.0.last_mut() {
+        if let Some(scope) = self.bound.last_mut() {
             scope.insert(name.to_string());
         }
     }
 
-    fn has(&self, name: &str) -> bool {
-        self.0.iter().any(|scope| scope.contains(name))
+    /// Whether a word's name is bound: then what follows it is a field.
+    fn has(&self, word: &str) -> bool {
+        let name = head(word);
+        let in_module = name != word && self.modules.contains(name);
+        !in_module && self.bound.iter().any(|scope| scope.contains(name))
     }
 
     /// The free names of words. What the words bind outside all brackets stays
@@ -101,6 +116,7 @@ impl Scopes {
     pub fn free(&mut self, words: &[Word]) -> Vec<Word> {
         let mut free = Vec::new();
         let mut lambda = false;
+        let mut outer = Vec::new();
         let mut at = 0;
         while at < words.len() {
             let word = words[at].text.as_str();
@@ -110,10 +126,14 @@ impl Scopes {
                     for word in &words[at + 1..at + 1 + bound] {
                         self.bind(&word.text);
                     }
-                    self.0.push(HashSet::new());
+                    self.bound.push(HashSet::new());
+                    outer.push(std::mem::take(&mut lambda));
                     at += bound;
                 }
-                ")" | "}" | "]" => _ = self.0.pop(),
+                ")" | "}" | "]" => {
+                    self.bound.pop();
+                    lambda = outer.pop().unwrap_or(false);
+                }
                 "λ" => lambda = true,
                 "." => lambda = false,
                 "let" => {

@@ -2,11 +2,11 @@
 
 use crate::source::{self, Source};
 use crate::specs::{self, Declaration, File, Kind};
-use crate::words::{Scopes, Word};
+use crate::words::{Scopes, Word, head};
 use std::collections::{BTreeMap, BTreeSet, HashMap};
 use std::fs;
 
-/// What is listed: a declaration of a file of specs/, or a struct of the source.
+/// What is listed: a declaration of a file of specs/ or proofs/, or a struct of the source.
 #[derive(Clone, PartialEq, Eq, PartialOrd, Ord, Debug)]
 pub enum Item {
     Spec(usize, usize),
@@ -27,15 +27,23 @@ pub struct Entry {
 
 pub struct World {
     pub files: Vec<File>,
-    /// By crate and module.
+    /// By crate and module, `specs.Link` or `proofs.Theorem`.
     places: HashMap<(String, String), usize>,
     pub sources: BTreeMap<String, Source>,
     pub errors: BTreeSet<String>,
 }
 
 /// Names of the language, which no file imports.
-const BUILT_IN: [&str; 8] = [
-    "Type", "Unit", "tt", "⊥", "absurd", "now", "ensures", "requires",
+const BUILT_IN: [&str; 5] = ["Type", "Unit", "tt", "⊥", "absurd"];
+
+/// What the paths of the kit begin with.
+const KIT: [&str; 6] = [
+    "Rattle.std.",
+    "Prim.",
+    "mathlib.",
+    "lib.",
+    "native.",
+    "borrow.",
 ];
 
 /// What a path leads to.
@@ -54,42 +62,42 @@ impl World {
             errors: BTreeSet::new(),
         };
         for name in crates {
-            for path in listed(&format!("crates/{name}/specs"), ".antt") {
-                let module = path
-                    .rsplit('/')
-                    .next()
-                    .unwrap_or("")
-                    .trim_end_matches(".antt");
-                world
-                    .places
-                    .insert((name.clone(), module.to_string()), world.files.len());
-                world.files.push(specs::read(&path, &text(&path)?)?);
+            for folder in ["specs", "proofs"] {
+                world.read_folder(name, folder)?;
             }
             // what is public stands in one file; a program has nothing public
             let path = format!("crates/{name}/src/lib.rt");
             if fs::exists(&path).unwrap_or(false) {
-                world
-                    .sources
-                    .insert(name.clone(), source::read(&path, &text(&path)?));
+                let source = source::read(&path, &text(&path)?)?;
+                world.sources.insert(name.clone(), source);
             }
         }
         Ok(world)
     }
 
+    fn read_folder(&mut self, name: &str, folder: &str) -> Result<(), String> {
+        for path in listed(&format!("crates/{name}/{folder}"), ".antt") {
+            let module = path.rsplit('/').next().unwrap_or("");
+            let module = format!("{folder}.{}", module.trim_end_matches(".antt"));
+            self.places
+                .insert((name.to_string(), module), self.files.len());
+            self.files.push(specs::read(&path, &text(&path)?)?);
+        }
+        Ok(())
+    }
+
+    /// Where a path leads: to `Rattle.CRATE.specs.MODULE` or `Rattle.CRATE.proofs.MODULE`, to a struct of the
+    /// source (`Rattle.CRATE.specs.declared.STRUCT`), or into the kit.
     fn place(&self, path: &str) -> Option<Place> {
-        let Some(rest) = path.strip_prefix("Rattle·") else {
-            return Some(Place::Kit);
-        };
-        let (name, rest) = rest.split_once(".specs.")?;
-        let name = name.trim_end_matches("·specs");
-        if !self.sources.contains_key(name) {
+        if KIT.iter().any(|kit| path.starts_with(kit)) {
             return Some(Place::Kit);
         }
-        if let Some(declared) = rest.strip_prefix("declared.") {
-            let declared = declared.split('.').next().unwrap_or(declared);
-            return Some(Place::Declared(name.to_string(), declared.to_string()));
+        let (name, module) = path.strip_prefix("Rattle.")?.split_once('.')?;
+        if let Some(declared) = module.strip_prefix("specs.declared.") {
+            let declared = head(declared).to_string();
+            return Some(Place::Declared(name.to_string(), declared));
         }
-        let key = (name.to_string(), rest.to_string());
+        let key = (name.to_string(), module.to_string());
         self.places.get(&key).map(|file| Place::Module(*file))
     }
 
@@ -121,13 +129,18 @@ impl World {
         before.or(all.first()).map(|(i, _)| Item::Spec(file, *i))
     }
 
-    /// What a name means in a file; None is the kit's. `own` is the file's index, if it is one of specs/.
+    /// What a name means in a file, or the name before a field; None is the kit's. `own` is the file's index, if
+    /// it is one of specs/ or proofs/.
     fn resolve(&self, file: &File, own: Option<usize>, word: &Word) -> Result<Option<Item>, ()> {
-        let name = word.text.as_str();
+        let name = head(&word.text);
         if BUILT_IN.contains(&name) {
             return Ok(None);
         }
-        let infix = format!("_{name}_");
+        if let (Some(alias), Some((_, rest))) = (file.aliases.get(name), word.text.split_once('.'))
+        {
+            return self.at(alias, head(rest));
+        }
+        let infix = format!("◌{name}◌");
         for name in [name, infix.as_str()] {
             if let Some(item) = own.and_then(|own| self.in_file(own, name, word.line)) {
                 return Ok(Some(item));
@@ -136,12 +149,7 @@ impl World {
                 return self.at(&import.path, &import.name);
             }
         }
-        let (path, last) = name.rsplit_once('.').ok_or(())?;
-        let (first, rest) = path.split_once('.').unwrap_or((path, ""));
-        match file.aliases.get(first) {
-            Some(alias) if rest.is_empty() => self.at(alias, last),
-            _ => self.at(path, last),
-        }
+        Err(())
     }
 
     /// What words mean in a file; one that is not understood is an error.
@@ -187,16 +195,27 @@ impl World {
     fn contract(&mut self, place: &str, function: usize) -> BTreeSet<Item> {
         let source = &self.sources[place];
         let own = &source.functions[function];
-        let mut scopes = Scopes::new();
+        let mut scopes = Scopes::new(source.ghost.aliases.keys());
+        scopes.bind("result");
         for word in &own.signature {
             if let Some(name) = word.text.strip_suffix(':') {
                 scopes.bind(name);
                 scopes.bind(&format!("«{name}»"));
             }
         }
-        let types = source::types(&own.signature);
-        let (mut items, errors) =
-            self.resolve_all(&source.ghost, None, &scopes.free(&own.contract));
+        // a contract may name an enum of the source, as `Place.Kind` does
+        let imported = |name: &str| {
+            source.ghost.imports.contains_key(name) || source.ghost.aliases.contains_key(name)
+        };
+        let free = scopes.free(&own.contract);
+        let (of_source, free) = free.into_iter().partition::<Vec<Word>, _>(|word| {
+            let name = head(&word.text);
+            !imported(name) && source.knows(name)
+        });
+        let mut types = source::types(&own.signature);
+        let named = of_source.iter().map(|word| head(&word.text).to_string());
+        types.extend(named.map(|name| (None, name)));
+        let (mut items, errors) = self.resolve_all(&source.ghost, None, &free);
         self.errors.extend(errors);
         items.extend(self.structs(place, types));
         items
@@ -245,7 +264,7 @@ impl World {
                 let mut types = source::types(&declared.body);
                 // an enum's own cases are no types
                 types.retain(|(path, case)| {
-                    path.is_some() || self.declared(place, case, place).is_ok()
+                    !declared.cases || path.is_some() || self.declared(place, case, place).is_ok()
                 });
                 self.structs(place, types).into_iter().collect()
             }
@@ -255,7 +274,7 @@ impl World {
     fn spec_names(&mut self, own: usize, declaration: usize, statement: bool) -> BTreeSet<Item> {
         let file = &self.files[own];
         let one = &file.declarations[declaration];
-        let mut scopes = Scopes::new();
+        let mut scopes = Scopes::new(file.aliases.keys());
         let mut within: BTreeSet<Item> = BTreeSet::new();
         for module in &one.within {
             scopes.free(&file.declarations[*module].head);
@@ -285,18 +304,19 @@ impl World {
         }
     }
 
-    /// A theorem of a crate by its name, or all public ones of a file: names that are neither `abbrev`
-    /// nor `unfoldable`.
+    /// A theorem of a crate by its name, or all public ones of a file, in specs/ or in proofs/: names that are
+    /// neither `abbrev` nor `unfoldable`.
     pub fn theorems(&self, place: &str, name: &str) -> Vec<Item> {
         let mut found = Vec::new();
+        let folders = ["specs", "proofs"].map(|folder| format!("crates/{place}/{folder}/"));
         for (i, file) in self.files.iter().enumerate() {
-            let whole = file.path == format!("crates/{place}/specs/{name}");
-            if !whole && !file.path.starts_with(&format!("crates/{place}/specs/")) {
+            let mut module = folders.iter().filter_map(|f| file.path.strip_prefix(f));
+            let Some(module) = module.next() else {
                 continue;
-            }
+            };
             for (j, one) in file.declarations.iter().enumerate() {
                 let theorem = one.kind == Kind::Plain && one.public && !one.marked;
-                if theorem && (whole || one.name == name) {
+                if theorem && (module == name || one.name == name) {
                     found.push(Item::Spec(i, j));
                 }
             }
