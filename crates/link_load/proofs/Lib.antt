@@ -10,7 +10,6 @@ pub mod MeaningLaws
 pub mod RefusalLaws
 pub mod RegionsLaws
 pub mod Repeats
-pub mod Raised
 pub mod RepeatsLaws
 pub mod ReportLaws
 pub mod SenderLaws
