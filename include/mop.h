@@ -132,7 +132,7 @@
  * changed, in the record, in memory or in a buffer, but that a load and a dump
  * count a frame as ignored while the verdict is 0 (mop_counts). One that was
  * taken gives a frame to send, or another verdict or state. That is a theorem
- * (crates/mop_steps/specs/Laws.antt). Compare records field by field: they have
+ * (crates/mop_steps/proofs/Laws.antt). Compare records field by field: they have
  * bytes that belong to no field and hold anything, so memcmp is no way.
  *
  * Verdicts. What they say of the machine holds where its end is this library's

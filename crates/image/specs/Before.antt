@@ -1,5 +1,5 @@
 -- Image files as they were checked before, when the entry count had 2 bytes and then 2 that had to be zero (PROTOCOL 3, 'Files made
--- earlier'). Kept for the statements of Theorem.antt: nothing else rests on it.
+-- earlier'). Kept for the statements of proofs/Theorem.antt: nothing else rests on it.
 use Rattle.std.specs.Prelude.{ℕ, ◌+◌, ◌-◌, ◌*◌, ◌≡◌, List, length, drop, eqb, leb}
 use Rattle.octets.specs.Number.{word}
 use Rattle.directory.specs.declared.Trailer.{Trailer}

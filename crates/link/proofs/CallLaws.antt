@@ -72,8 +72,8 @@ module _ {H B E : Type 0} (end : H → B → E) where
   frame-came P version n frame h b reply react r a =
       let refusals = first (n ∷ (fields version frame).refusal ∷ []) in
       by_cases (λ (o : Outcome H B). P (turned end o)) (eqb refusals 0)
-      (λ e. let None-first = none _ _ (eqb-true refusals 0 e) in
-      subst P (sym (tells _ _ reply (react (fields version frame)).sending)) (a None-first.0 (none _ _ None-first.1).0))
+      (λ e. let none_first = none _ _ (eqb-true refusals 0 e) in
+      subst P (sym (tells _ _ reply (react (fields version frame)).sending)) (a none_first.0 (none _ _ none_first.1).0))
       (λ e. rw e r)
 
   -- it is refused, or the frame is to be counted until there is a verdict

@@ -1,2 +1,2 @@
-// The link: theorems alone (specs/), over the very definitions that the calls of both ends promise.
+// The link: its model (specs/) and theorems alone (proofs/), over the very definitions that the calls of both ends promise.
 #![tactic(auto)]

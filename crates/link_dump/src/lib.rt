@@ -1,2 +1,2 @@
-// The link theorem for a dump: theorems alone (specs/).
+// The link theorem for a dump: what it says (specs/) and theorems alone (proofs/).
 #![tactic(auto)]

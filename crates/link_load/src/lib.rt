@@ -1,2 +1,2 @@
-// The link theorem for a load: theorems alone (specs/).
+// The link theorem for a load: what it says (specs/) and theorems alone (proofs/).
 #![tactic(auto)]

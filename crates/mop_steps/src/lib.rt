@@ -6,9 +6,9 @@ ghost use Rattle.step.specs.Step.{Leaves};
 ghost use Rattle.machine_record.specs.Record.{requesting, offering};
 ghost use Rattle.machine_timer.specs.Timer.{machine_timer};
 ghost use Rattle.machine.specs.Machine.{machine_frame};
-ghost use Rattle.load_record.specs.Record.{fresh as freshLoad};
+ghost use Rattle.load_record.specs.Record.{fresh as fresh_load};
 ghost use Rattle.load.specs.Load.{load_frame, load_timer};
-ghost use Rattle.dump_record.specs.Record.{fresh as freshDump};
+ghost use Rattle.dump_record.specs.Record.{fresh as fresh_dump};
 ghost use Rattle.dump.specs.Dump.{dump_frame, dump_timer};
 ghost use Rattle.looptest.specs.Loop.{loop_start, loop_frame, loop_timer};
 
@@ -65,7 +65,7 @@ pub extern "C" fn mop_machine_timer(
 
 #[unsafe(no_mangle)]
 pub extern "C" fn mop_load_start() -> load_record::Session
-    ensures { result ≡ freshLoad }
+    ensures { result ≡ fresh_load }
 {
     load_record::start()
 }
@@ -101,7 +101,7 @@ pub extern "C" fn mop_load_timer(
 
 #[unsafe(no_mangle)]
 pub extern "C" fn mop_dump_start() -> dump_record::Session
-    ensures { result ≡ freshDump }
+    ensures { result ≡ fresh_dump }
 {
     dump_record::start()
 }

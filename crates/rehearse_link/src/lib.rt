@@ -1,2 +1,2 @@
-// Every rehearsal is a run of the link: definitions and theorems alone (specs/).
+// Every rehearsal is a run of the link: definitions (specs/) and theorems alone (proofs/).
 #![tactic(auto)]

@@ -45,7 +45,7 @@ index_most b (c ∷ rest) = go (eqb c b) (index_most b rest)
 pub index_within : (b : ℕ) (s : List ℕ) (from : ℕ) → index_of b (drop from s) ≤ length s
 index_within b s from = omega (arith, index_most b (drop from s), length-drop from s)
 
--- the kit's `find` up to the end, and a place behind the end
+-- `text::find` up to the end, and a place behind the end
 pub found_none : (b : ℕ) (s : List ℕ) (from : ℕ) → length s < from → from ≡ from + index_of b (drop from s)
 unfolding index_of
 found_none b s from h = rw (drop_of_length-le s {i = from} (omega arith)) (omega arith)

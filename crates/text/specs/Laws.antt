@@ -15,7 +15,7 @@ pub by_test : (test : Bool) (P : Type 0) → (test ≡ true → P) → (test ≡
 by_test true P f g = f refl
 by_test false P f g = g refl
 
--- what the kit's `find` answers up to a text's end
+-- what `find` answers up to a text's end
 pub found : (b : ℕ) (t : List ℕ) (at r : ℕ) → r ≡ at + index_of b (slice at (length t) t) → r ≡ at + index_of b (drop at t)
 unfolding slice
 found b t at r e = rw take-length at e

@@ -1,4 +1,4 @@
-// Texts in lent buffers: a part of one, one laid whole, and one added behind what stands there.
+// Texts in lent buffers: a part of one, the place of a byte in one, one laid whole, and one added behind what stands there.
 #![tactic(auto)]
 
 ghost use Rattle.std.specs.Prelude.{◌≡◌, ◌+◌, ◌≤◌, length, take, drop};
