@@ -30,6 +30,7 @@ pub struct Region {
     pub length: u32,
 }
 
+#[tactic(auto, unfolding(crate::specs::Directory::trailer_of))]
 fn fields(t: &[u8]) -> Trailer
     ensures { result ≡ trailer_of t.now }
 {

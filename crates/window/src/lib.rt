@@ -39,6 +39,7 @@ pub fn allowed(window: Window) -> bool
 }
 
 // The window touches n bytes from an address on: the later of the two starts lies in both.
+#[tactic(auto, unfolding(crate::specs::Window::touches))]
 pub fn touching(window: Window, address: usize, n: usize) -> bool
     ensures { result ≡ touches window address n }
 {

@@ -12,3 +12,9 @@ tell-requires c = let a = c.args in
     let none = rw c.refusal-refusal.ensures at c.if-refusal-ne0.false in
     let allowed = accepted a.settings a.session (length a.buffer.now) (length a.reply.now) none in
     rw c.on_timer-next.ensures (ready_timer a.settings a.session _ _ allowed)
+
+pub returns : goal.returns
+returns c = let a = c.args in
+    let none = rw c.refusal-refusal.ensures at c.if-refusal-ne0.false in
+    call-accepted _ a.session a.buffer.now a.reply.now (does a.settings (on_timer a.settings a.session) a.buffer.now) none
+    (rw c.on_timer-next.ensures at c.tell.ensures a.buffer.now)

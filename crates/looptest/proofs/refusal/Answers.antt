@@ -1,4 +1,5 @@
 use borrow.Author.Rules.{rules}
+use native.Mathlib.Omega.{arith}
 use mathlib.Core.Bool.{true}
 use mathlib.Core.Path.{◌≡◌, sym, ◌∙◌}
 use borrow.Author.Tests.{le-leb, lt-leb, not-true, not-false}
@@ -39,10 +40,10 @@ pub returns-then-room-lt1500 : goal.returns-then-room-lt1500
 unfolding first
 returns-then-room-lt1500 c = let ranged : let a = c.args in settled a.s a.size ≡ true = rw (le-leb _ _ c.if-s-gt255.false, le-leb _ _ c.if-size-gt1497.false, sym c.known.ensures ∙ c.if-not-known.false) in
     let kept : let a = c.args in sound a.s a.h ≡ true = rw (le-leb _ _ c.if-h-gt3.false, le-leb _ _ c.if-s-h.false, le-leb _ _ c.if-most-h.false) in
-    rw (ranged, kept, lt-leb _ _ c.if-room-lt1500.true)
+    rw (ranged, kept, lt-leb 1500 c.args.room (omega arith))
 
 pub returns : goal.returns
 unfolding first
 returns c = let ranged : let a = c.args in settled a.s a.size ≡ true = rw (le-leb _ _ c.if-s-gt255.false, le-leb _ _ c.if-size-gt1497.false, sym c.known.ensures ∙ c.if-not-known.false) in
     let kept : let a = c.args in sound a.s a.h ≡ true = rw (le-leb _ _ c.if-h-gt3.false, le-leb _ _ c.if-s-h.false, le-leb _ _ c.if-most-h.false) in
-    rw (ranged, kept, le-leb _ _ c.if-room-lt1500.false)
+    rw (ranged, kept, le-leb 1500 c.args.room (omega arith))

@@ -25,7 +25,7 @@ overflow_add-third c = omega (arith, index_within 10 c.args.input.now 0, index_w
 pub returns-then-not-line : goal.returns-then-not-line
 returns-then-not-line c = let second : Cut 10 c.args.input.now (image_at c.args.input.now) (c.find-first.result + 1) c.find-second.result = cut 10 c.args.input.now _ _ _ (cut 10 c.args.input.now 0 0 _ refl c.find-first.ensures).next c.find-second.ensures in
     let third : Cut 10 c.args.input.now (events_at c.args.input.now) (c.find-second.result + 1) c.find-third.result = cut 10 c.args.input.now _ _ _ (second).next c.find-third.ensures in
-    let short : leb (length c.args.input.now) 8192 ≡ true = le-leb _ _ c.if-input-gt8192.false in
+    let short : leb (length c.args.input.now) 8192 ≡ true = le-leb (length c.args.input.now) 8192 (omega arith) in
     let three-lines : eqb (end c.args.input.now) (length c.args.input.now) ≡ true = eq-eqb (end c.args.input.now) (length c.args.input.now) (omega (arith, (third).next)) in
     let settings-are : c.settings-line.result ≡ settings (settings_line c.args.input.now) = rw (cut-first 10 c.args.input.now _ c.find-first.ensures) at c.settings-line.ensures in
     rw (short, three-lines, not-settled _ _ (settings-are) (not-true _ c.if-not-line.true)) c.malformed-then-not-line.ensures
@@ -33,7 +33,7 @@ returns-then-not-line c = let second : Cut 10 c.args.input.now (image_at c.args.
 pub returns-then-not-is_hexadecimal : goal.returns-then-not-is_hexadecimal
 returns-then-not-is_hexadecimal c = let second : Cut 10 c.args.input.now (image_at c.args.input.now) (c.find-first.result + 1) c.find-second.result = cut 10 c.args.input.now _ _ _ (cut 10 c.args.input.now 0 0 _ refl c.find-first.ensures).next c.find-second.ensures in
     let third : Cut 10 c.args.input.now (events_at c.args.input.now) (c.find-second.result + 1) c.find-third.result = cut 10 c.args.input.now _ _ _ (second).next c.find-third.ensures in
-    let short : leb (length c.args.input.now) 8192 ≡ true = le-leb _ _ c.if-input-gt8192.false in
+    let short : leb (length c.args.input.now) 8192 ≡ true = le-leb (length c.args.input.now) 8192 (omega arith) in
     let three-lines : eqb (end c.args.input.now) (length c.args.input.now) ≡ true = eq-eqb (end c.args.input.now) (length c.args.input.now) (omega (arith, (third).next)) in
     let settings-are : c.settings-line.result ≡ settings (settings_line c.args.input.now) = rw (cut-first 10 c.args.input.now _ c.find-first.ensures) at c.settings-line.ensures in
     let image-is : c.is_hexadecimal.result ≡ is_image (image_line c.args.input.now) = rw (second).part at c.is_hexadecimal.ensures in
@@ -42,7 +42,7 @@ returns-then-not-is_hexadecimal c = let second : Cut 10 c.args.input.now (image_
 pub returns-then-not-only : goal.returns-then-not-only
 returns-then-not-only c = let second : Cut 10 c.args.input.now (image_at c.args.input.now) (c.find-first.result + 1) c.find-second.result = cut 10 c.args.input.now _ _ _ (cut 10 c.args.input.now 0 0 _ refl c.find-first.ensures).next c.find-second.ensures in
     let third : Cut 10 c.args.input.now (events_at c.args.input.now) (c.find-second.result + 1) c.find-third.result = cut 10 c.args.input.now _ _ _ (second).next c.find-third.ensures in
-    let short : leb (length c.args.input.now) 8192 ≡ true = le-leb _ _ c.if-input-gt8192.false in
+    let short : leb (length c.args.input.now) 8192 ≡ true = le-leb (length c.args.input.now) 8192 (omega arith) in
     let three-lines : eqb (end c.args.input.now) (length c.args.input.now) ≡ true = eq-eqb (end c.args.input.now) (length c.args.input.now) (omega (arith, (third).next)) in
     let settings-are : c.settings-line.result ≡ settings (settings_line c.args.input.now) = rw (cut-first 10 c.args.input.now _ c.find-first.ensures) at c.settings-line.ensures in
     let image-is : c.is_hexadecimal.result ≡ is_image (image_line c.args.input.now) = rw (second).part at c.is_hexadecimal.ensures in
@@ -52,7 +52,7 @@ returns-then-not-only c = let second : Cut 10 c.args.input.now (image_at c.args.
 pub returns : goal.returns
 returns c = let second : Cut 10 c.args.input.now (image_at c.args.input.now) (c.find-first.result + 1) c.find-second.result = cut 10 c.args.input.now _ _ _ (cut 10 c.args.input.now 0 0 _ refl c.find-first.ensures).next c.find-second.ensures in
     let third : Cut 10 c.args.input.now (events_at c.args.input.now) (c.find-second.result + 1) c.find-third.result = cut 10 c.args.input.now _ _ _ (second).next c.find-third.ensures in
-    let short : leb (length c.args.input.now) 8192 ≡ true = le-leb _ _ c.if-input-gt8192.false in
+    let short : leb (length c.args.input.now) 8192 ≡ true = le-leb (length c.args.input.now) 8192 (omega arith) in
     let three-lines : eqb (end c.args.input.now) (length c.args.input.now) ≡ true = eq-eqb (end c.args.input.now) (length c.args.input.now) (omega (arith, (third).next)) in
     let settings-are : c.settings-line.result ≡ settings (settings_line c.args.input.now) = rw (cut-first 10 c.args.input.now _ c.find-first.ensures) at c.settings-line.ensures in
     let image-is : c.is_hexadecimal.result ≡ is_image (image_line c.args.input.now) = rw (second).part at c.is_hexadecimal.ensures in
