@@ -17,7 +17,7 @@ use Rattle.link.specs.Link.{Frame, Turn, refuses, acts, Ends, World, step, run}
 use Rattle.link.specs.Taken.{Taken, host_frames, all_taken}
 use Rattle.link.specs.MachineEnd.{End}
 use Rattle.link_load.specs.Model.{Reset, on_reset_takes, load_ends, fresh_world, after, all_frames, with_repeats}
-use Rattle.link_load.proofs.Repeats.{raised_load}
+use Rattle.link_load.proofs.Raised.{raised_load}
 use Rattle.link_dump.specs.Model as dump
 use Rattle.link_dump.proofs.Repeats.{raised_dump}
 use Rattle.cases.specs.LoadExample.{image, load_settings, machine_settings, events}

@@ -10,6 +10,7 @@ pub mod MeaningLaws
 pub mod RefusalLaws
 pub mod RegionsLaws
 pub mod Repeats
+pub mod Raised
 pub mod RepeatsLaws
 pub mod ReportLaws
 pub mod SenderLaws

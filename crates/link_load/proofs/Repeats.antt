@@ -1,7 +1,6 @@
 -- Raising the repeats (PROTOCOL 6, 'Link'): what a load does with a larger R, over the whole list of events.
 --     raised          the theorem: the same world and the same frames, unless the smaller R gives up
---     raised-before   so it was after every beginning of the list
---     raised_load     in the paper's words: if the load with the smaller R ends finished or rejected
+--     raised-before, raised_load    what follows of it, in Raised.antt
 --     bounded-raised  the same on a line with bounded queues
 --     raised-any, bounded-raised-any    the same beside any machine, of this library or not
 --     listed_load     of the frames taken, those of the host are as many as the link counts
@@ -48,7 +47,7 @@ module _
   stays-given-up = stays-ended (beside R) (beside R').host_frame (beside R').host_timer Good GaveUp agreed more w
 
 -- a reset leaves the host's record as it is, and takes no frame of the host
-reset-unmoved : {restart : ℕ} (ms : MachineSettings) (w : World Session End) (x : ResetIf restart) → (on_reset ms w x).host ≡ w.host
+pub reset-unmoved : {restart : ℕ} (ms : MachineSettings) (w : World Session End) (x : ResetIf restart) → (on_reset ms w x).host ≡ w.host
 reset-unmoved ms w (reset setting bytes) = refl
 
 reset-counted : {restart : ℕ} (ms : MachineSettings) (w : World Session End) (x : ResetIf restart) → (on_reset ms w x).taken ≡ w.taken + length (host_frames (on_reset_takes ms w x))
@@ -70,12 +69,12 @@ module _ (s : LoadSettings) (ms : MachineSettings) (file string old : List ℕ) 
   -- not smaller and is allowed. Nothing is asked of image, string, settings or memory.
   module _ (R R' : ℕ) (larger : R ≤ R') (most : R' ≤ 255) where
     -- the load with x for R
-    abbrev reached : ℕ → List (Event (Reset s)) → World Session End
+    abbrev pub reached : ℕ → List (Event (Reset s)) → World Session End
     reached x es = after (with_repeats x s) ms file string old es
 
     -- Both are in the same world: the host's record with every count, the machine with what it keeps, memory, both queues; and the link took the
     -- same frames in the same order.
-    abbrev Same : List (Event (Reset s)) → Type 0
+    abbrev pub Same : List (Event (Reset s)) → Type 0
     Same es = (reached R es ≡ reached R' es) × (all_frames (with_repeats R s) ms file string old es ≡ all_frames (with_repeats R' s) ms file string old es)
 
     -- The theorem: so it is, unless the load with R was given up or is unconfirmed.
@@ -83,21 +82,6 @@ module _ (s : LoadSettings) (ms : MachineSettings) (file string old : List ℕ) 
     raised es not-given-up =
         let x = raised-any s file string (frame_turn ms) (timer_turn ms) (on_reset ms) (reset-unmoved ms) (on_reset_takes ms) R R' (omega (arith, larger)) (omega (arith, most)) (fresh_world ms old) refl es not-given-up in
         (x.0, ap (λ (t : List Taken). map from_machine (fresh_world ms old).to_host ++ t) x.1)
-
-    -- And so it was after every beginning of the list: es is the beginning, fs the rest.
-    pub raised-before : (es fs : List (Event (Reset s))) → (GaveUp (reached R (es ++ fs)).host → ⊥) → Same es
-    raised-before es fs not-given-up =
-        raised es (λ o. not-given-up (stays-given-up s file string (frame_turn ms) (timer_turn ms) (on_reset ms) (reset-unmoved ms) (on_reset_takes ms) R R' (omega (arith, larger)) (omega (arith, most)) (fresh_world ms old) refl es fs o))
-
-    -- In particular where the load with R ended finished or rejected.
-    pub raised_load : (es : List (Event (Reset s))) → ((reached R es).host.verdict ≡ 1) ⊎ ((reached R es).host.verdict ≡ 2) → Same es
-    raised_load es ended = raised es (neither (reached R es).host.verdict ended)
-      where
-        neither : (v : ℕ) → (v ≡ 1) ⊎ (v ≡ 2) → GivenUp v → ⊥
-        neither v (inl e) (inl u) = omega arith
-        neither v (inl e) (inr u) = omega arith
-        neither v (inr e) (inl u) = omega arith
-        neither v (inr e) (inr u) = omega arith
 
     -- On a line whose queues hold at most n frames, where a frame that finds its queue full is lost, though the link has taken it. The list has the
     -- frames of the events alone, without the fresh machine's first.
