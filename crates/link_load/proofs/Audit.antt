@@ -15,7 +15,7 @@
 --     never-refused     in fewer than 2^64 - 1 events no call of either end with a reply buffer of 1,500 bytes is refused
 --     bounded_load, bounded-finished, bounded-once, bounded-never-refused    the same on a line with bounded queues
 --     started_load      the fresh world is what the start calls leave
---     raised, raised_load    (Repeats.antt) what a larger R changes, and what it cannot
+--     raised, raised_load    (Repeats.antt, Raised.antt) what a larger R changes, and what it cannot
 --     never-reset       (Theorem.antt) without the restart setting there is no reset, and the memory before is the fresh machine's
 use Rattle.std.specs.Prelude.{ℕ, ◌+◌, ◌*◌, ◌≤◌, ◌<◌, ◌≡◌, refl, Bool, true, false, List, [], map, ◌⊎◌, length, take, drop}
 use Rattle.std.proofs.Common.{sym, subst, ◌∙◌, inl, inr, ⊎_elim, arith, eqb-true}
