@@ -10,7 +10,7 @@ SOURCES = $(shell find crates -name out -prune -o -name '*.rt' -print -o -name '
 
 .PHONY: test run explain frames lib compare compare-rehearsal bench needs trusted trusted-list header layout examples guards sanitize lint driver driver-sanitized fuzz driver-test line-bench simh dist
 
-# rt ci comes first; its last line is repeated at the end where all else passed.
+# rt ci comes first, and target/ is removed behind it; its last line is repeated at the end where all else passed.
 test: needs
 	@bash tests/run
 
@@ -42,9 +42,12 @@ EXPORTS = mop_frames mop_steps mop_update
 $(LIB): $(SOURCES)
 	@$(NEEDS_KIT)
 	@mkdir -p target/staticlib
-	@for crate in $(EXPORTS); do (cd crates/$$crate && rt lib) >target/lib.log 2>&1 || { cat target/lib.log; exit 1; }; done
+	@for crate in $(EXPORTS); do \
+	    { (cd crates/$$crate && rt lib) && cp crates/$$crate/out/lib$$crate.a target/staticlib; } >target/lib.log 2>&1 \
+	        || { cat target/lib.log; exit 1; }; \
+	done
 	@rt version >target/staticlib/kit
-	@(echo create $@; for crate in $(EXPORTS); do echo addlib crates/$$crate/out/lib$$crate.a; done; echo save) | ar -M
+	@(echo create $@; for crate in $(EXPORTS); do echo addlib target/staticlib/lib$$crate.a; done; echo save) | ar -M
 
 # When all crates were last checked, those of theorems alone too, and by which kit: what a release tells.
 target/checked: $(SOURCES)
