@@ -1,9 +1,8 @@
 -- Laws of the parameter block: where it lies, and each of its bytes.
-use Rattle.std.specs.Prelude.{ℕ, ◌+◌, ◌%◌, ◌≤◌, ◌<◌, ◌≡◌, List, length, get_or}
+use Rattle.std.specs.Prelude.{ℕ, ◌+◌, ◌%◌, ◌≤◌, ◌<◌, ◌≡◌, List, length, get_or, None}
 use Rattle.std.proofs.Common.{arith, le-ltb}
 use Rattle.octets.specs.ValuesLaws.{entry, length-values}
 use Rattle.parameters.specs.declared.Parameters.{Parameters}
-use Rattle.block.specs.declared.Change.TheVariants.{Stays}
 use Rattle.block.specs.Block.{top, place, cell, block_byte, block}
 
 -- the top is even, and the first even address that is not below the memory's end
@@ -27,6 +26,6 @@ unfolding block
 get_or-block p memory x h = entry (block_byte p memory) 0 14 x h
 
 -- beyond the 14 bytes it changes nothing
-pub cell-beyond : (p : Parameters) (x : ℕ) → 14 ≤ x → cell p x ≡ Stays
+pub cell-beyond : (p : Parameters) (x : ℕ) → 14 ≤ x → cell p x ≡ None
 unfolding cell
 cell-beyond p x h = rw (le-ltb x 2 (omega arith), le-ltb x 8 (omega arith), le-ltb x 14 h)

@@ -2,16 +2,9 @@
 #![tactic(auto)]
 
 ghost use Rattle.std.specs.Prelude.{◌≡◌, ◌<◌, get_or};
-ghost use Rattle.block.specs.Block.{place, roomy, padded, name_cell, cell, over, block};
+ghost use Rattle.block.specs.Block.{place, roomy, padded, name_cell, cell, block};
 
 use parameters::{Parameters, Value};
-
-// What the block does to a byte: it stays, or it becomes another.
-#[derive(Clone, Copy)]
-pub enum Change {
-    Stays,
-    Becomes(u8),
-}
 
 // How many bytes the block has.
 pub const LENGTH: usize = 14;
@@ -23,10 +16,7 @@ pub const LEAST: usize = 64;
 pub fn roomy(version: u8, size: usize) -> bool
     ensures { result ≡ roomy version size }
 {
-    if !version::older(version) {
-        return true;
-    }
-    LEAST <= size
+    !version::older(version) || LEAST <= size
 }
 
 // Where the block begins in a memory of this size.
@@ -44,33 +34,29 @@ fn padded(fill: u8, value: Value, i: usize) -> u8
     requires { i < 16 }
     ensures { result ≡ padded fill value i }
 {
-    if value.length as usize <= i {
+    if usize::from(value.length) <= i {
         return fill;
     }
     value.bytes[i]
 }
 
-// Byte i of a name's part of the block: padded with spaces; of an empty name the first two are 0, the others stay.
-fn name_cell(value: Value, i: usize) -> Change
+// Byte i of a name's part of the block, if it changes: padded with spaces; of an empty name the first two become 0.
+fn name_cell(value: Value, i: usize) -> Option<u8>
     requires { i < 16 }
     ensures { result ≡ name_cell value i }
 {
     if value.length != 0 {
-        return Change::Becomes(padded(32, value, i));
+        return Some(padded(32, value, i));
     }
-    if i < 2 {
-        Change::Becomes(0)
-    } else {
-        Change::Stays
-    }
+    if i < 2 { Some(0) } else { None }
 }
 
-// Byte x of the block: the node number, the target name, the host name.
-pub fn cell(parameters: Parameters, x: usize) -> Change
+// What byte x of the block becomes, if it changes: the node number, the target name, the host name.
+pub fn cell(parameters: Parameters, x: usize) -> Option<u8>
     ensures { result ≡ cell parameters x }
 {
     if x < 2 {
-        return Change::Becomes(padded(0, parameters.target_address, x));
+        return Some(padded(0, parameters.target_address, x));
     }
     if x < 8 {
         return name_cell(parameters.target_name, x - 2);
@@ -78,27 +64,14 @@ pub fn cell(parameters: Parameters, x: usize) -> Change
     if x < LENGTH {
         return name_cell(parameters.host_name, x - 8);
     }
-    Change::Stays
-}
-
-// A byte after a change.
-fn over(change: Change, b: u8) -> u8
-    ensures { result ≡ over change b }
-{
-    match change {
-        Change::Stays => b,
-        Change::Becomes(x) => x,
-    }
+    None
 }
 
 // A byte of memory, 0 beyond its end.
 fn byte(memory: &[u8], at: usize) -> u8
     ensures { result ≡ get_or memory.now at 0 }
 {
-    if memory.len() <= at {
-        return 0;
-    }
-    memory[at]
+    memory.get(at).copied().unwrap_or(0)
 }
 
 // The block's bytes for a memory, which keep those that stay.
@@ -107,10 +80,8 @@ pub fn block(parameters: Parameters, memory: &[u8]) -> [u8; 14]
 {
     let at = place(memory.len());
     let mut bytes = [0u8; 14];
-    let mut x = 0usize;
-    while x < LENGTH {
-        bytes[x] = over(cell(parameters, x), byte(memory, at + x));
-        x += 1;
+    for (x, b) in bytes.iter_mut().enumerate() {
+        *b = cell(parameters, x).unwrap_or(byte(memory, at + x));
     }
     bytes
 }

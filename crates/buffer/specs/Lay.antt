@@ -1,5 +1,7 @@
 -- Laying a frame into a lent buffer: refusals 2 and 9, decided once for every writer (PROTOCOL 7, 'Refusals').
-use Rattle.std.specs.Prelude.{ℕ, ◌+◌, Bool, cond as pick, ◌≡◌, List, ◌++◌, length, take, drop, ltb, leb}
+use Rattle.std.specs.Prelude.{ℕ, ◌+◌, Bool, cond as pick, ◌≡◌, List, ◌++◌, Result, Ok, Err, length, take, drop, ltb, leb}
+use Rattle.refusal.specs.declared.Refusal.{Refusal}
+use Rattle.refusal.specs.Refusal.{number}
 use Rattle.buffer.specs.declared.Written.{Written}
 
 -- the bytes fit into a buffer from a place on
@@ -20,6 +22,11 @@ written n = record { length = n; refusal = 0 }
 
 abbrev pub refused : ℕ → Written
 refused r = record { length = 0; refusal = r }
+
+-- the answer in numbers, as C sees it
+abbrev pub written_of : Result ℕ Refusal → Written
+written_of (Ok n) = written n
+written_of (Err r) = refused (number r)
 
 -- What a writer answers, and its buffer at exit.
 pub record Output : Type 0 where

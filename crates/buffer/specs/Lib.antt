@@ -1,2 +1,3 @@
 pub mod Lay
 pub mod LayLaws
+pub mod WrittenLaws

@@ -4,9 +4,12 @@
 ghost use Rattle.std.specs.Prelude.{◌≡◌};
 ghost use Rattle.message.specs.Read.{rows, find};
 ghost use Rattle.codes.specs.Table.{marked, limit, refusal};
+ghost use Rattle.refusal.specs.Refusal.{number_of};
 
-// What marks a code that is not listed, one with its least length, and one with its only length. NONE is not 0: runs of zeros
-// are laid out by themselves, so that the table takes twice the stores.
+use refusal::Refusal;
+
+// What marks a code that is not listed, one with its least length, and one with its only length. They are numbers and no
+// enum: `marked` of specs/Table.antt has them. NONE is not 0: with runs of zeros the table takes twice the stores.
 const NONE: u16 = 1;
 
 const LEAST: u16 = 256;
@@ -51,7 +54,7 @@ fn entry(code: u8) -> u16
     if 26 < code {
         return NONE;
     }
-    CODES[code as usize]
+    CODES[usize::from(code)]
 }
 
 // The longest frame of an entry.
@@ -61,22 +64,22 @@ fn longest(entry: u16) -> usize
     if entry < EXACTLY {
         return 1500;
     }
-    (entry - EXACTLY) as usize
+    usize::from(entry - EXACTLY)
 }
 
-// The refusal of a frame of this code and length, or 0: the code, then the least length, then the excess.
-pub fn refusal(code: u8, length: usize) -> u8
-    ensures { result ≡ refusal length (find rows code) }
+// The refusal of a frame of this code and length, if any: the code, then the least length, then the excess.
+pub fn refusal(code: u8, length: usize) -> Result<(), Refusal>
+    ensures { number_of result ≡ refusal length (find rows code) }
 {
     let entry = entry(code);
     if entry < LEAST {
-        return 3;
+        return Err(Refusal::Code);
     }
-    if length < (entry % 256) as usize {
-        return 1;
+    if length < usize::from(entry % 256) {
+        return Err(Refusal::Short);
     }
     if longest(entry) < length {
-        return 2;
+        return Err(Refusal::Long);
     }
-    0
+    Ok(())
 }

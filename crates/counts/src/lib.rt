@@ -4,8 +4,10 @@
 ghost use Rattle.std.specs.Prelude.{◌≡◌, true, false};
 ghost use Rattle.counts.specs.Counts.{zero, below, only_ignored, begins, tally};
 
+use verdict::Verdict;
+
 // A record with a count as high is bad.
-pub const TOP: u64 = 18446744073709551615;
+pub const TOP: u64 = u64::MAX;
 
 // The frames that ended the waiting or began a load again, moved the session on, moved nothing, and rejected it.
 #[repr(C)]
@@ -18,7 +20,7 @@ pub struct Counts {
 }
 
 // Where a session stands: c of a load, the bytes filled of a dump; how often a load began again; whether it waits; the
-// verdict.
+// verdict. The last two are the numbers of C's record.
 #[derive(Clone, Copy)]
 pub struct Standing {
     pub reached: u64,
@@ -27,83 +29,68 @@ pub struct Standing {
     pub verdict: u8,
 }
 
-// No frame yet.
-pub fn zero() -> Counts
-    ensures { result ≡ zero }
-{
-    Counts {
-        starts: 0,
-        advances: 0,
-        ignored: 0,
-        rejections: 0,
-    }
-}
-
-// Whether every count is below 2^64 - 1.
-pub fn below(counts: Counts) -> bool
-    ensures { result ≡ below counts }
-{
-    if TOP <= counts.starts {
-        return false;
-    }
-    if TOP <= counts.advances {
-        return false;
-    }
-    if TOP <= counts.ignored {
-        return false;
-    }
-    counts.rejections < TOP
-}
-
-// Whether no count but that of ignored frames is above 0.
-pub fn only_ignored(counts: Counts) -> bool
-    ensures { result ≡ only_ignored counts }
-{
-    if counts.starts != 0 {
-        return false;
-    }
-    if counts.advances != 0 {
-        return false;
-    }
-    counts.rejections == 0
-}
-
 // Whether the waiting is over, or the load begins again.
 fn begins(before: Standing, after: Standing) -> bool
     ensures { result ≡ begins before after }
 {
-    if before.restarts < after.restarts {
-        return true;
-    }
-    if before.waiting != 1 {
-        return false;
-    }
-    after.waiting == 0
+    before.restarts < after.restarts || (before.waiting == 1 && after.waiting == 0)
 }
 
-// The counts after a frame: one is raised, while there is no verdict and there are numbers for it.
-pub fn tally(before: Standing, after: Standing, counts: Counts) -> Counts
-    ensures { (below counts ≡ true → result ≡ tally before after counts) × (below counts ≡ false → result ≡ counts) }
-{
-    let mut next = counts;
-    if !below(counts) {
-        return next;
+impl Counts {
+    // No frame yet.
+    pub fn zero() -> Counts
+        ensures { result ≡ zero }
+    {
+        Counts {
+            starts: 0,
+            advances: 0,
+            ignored: 0,
+            rejections: 0,
+        }
     }
-    if before.verdict != 0 {
-        return next;
+
+    // Whether every count is below 2^64 - 1.
+    pub fn below(self) -> bool
+        ensures { result ≡ below self }
+    {
+        self.starts < TOP && self.advances < TOP && self.ignored < TOP && self.rejections < TOP
     }
-    if begins(before, after) {
-        next.starts = counts.starts + 1;
-        return next;
+
+    // Whether no count but that of ignored frames is above 0.
+    pub fn only_ignored(self) -> bool
+        ensures { result ≡ only_ignored self }
+    {
+        self.starts == 0 && self.advances == 0 && self.rejections == 0
     }
-    if before.reached < after.reached {
-        next.advances = counts.advances + 1;
-        return next;
+
+    // The counts after a frame: one is raised, while there is no verdict and there are numbers for it.
+    pub fn tally(self, before: Standing, after: Standing) -> Counts
+        ensures { (below self ≡ true → result ≡ tally before after self) × (below self ≡ false → result ≡ self) }
+    {
+        if !self.below() || before.verdict != Verdict::Running.into() {
+            return self;
+        }
+        if begins(before, after) {
+            return Counts {
+                starts: self.starts + 1,
+                ..self
+            };
+        }
+        if before.reached < after.reached {
+            return Counts {
+                advances: self.advances + 1,
+                ..self
+            };
+        }
+        if after.verdict == Verdict::Rejected.into() {
+            return Counts {
+                rejections: self.rejections + 1,
+                ..self
+            };
+        }
+        Counts {
+            ignored: self.ignored + 1,
+            ..self
+        }
     }
-    if after.verdict == 2 {
-        next.rejections = counts.rejections + 1;
-        return next;
-    }
-    next.ignored = counts.ignored + 1;
-    next
 }

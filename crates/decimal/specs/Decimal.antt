@@ -1,5 +1,6 @@
 -- Decimal numbers: their text, and the number that a text is.
-use Rattle.std.specs.Prelude.{ℕ, ◌+◌, ◌*◌, Bool, true, ◌&&◌, ◌||◌, not, cond as pick, List, [], ◌∷◌, length, get_or, eqb, leb, ltb}
+use Rattle.std.specs.Prelude.{ℕ, ◌+◌, ◌*◌, Bool, ◌&&◌, ◌||◌, not, cond as pick, List, [], ◌∷◌, length, get_or, eqb, leb, ltb}
+use Rattle.std.specs.List.{list_all}
 use Rattle.digits.specs.Digits.{nibble, digits}
 
 -- digits without the zeros in front; the last digit stays
@@ -14,8 +15,7 @@ decimal n = trimmed (digits 10 20 n)
 
 -- every character is a digit
 unfoldable pub are_digits : List ℕ → Bool
-are_digits [] = true
-are_digits (c ∷ rest) = ltb (nibble c) 10 && are_digits rest
+are_digits s = list_all (λ c. ltb (nibble c) 10) s
 
 -- some digits, and no zero in front unless it is the only digit
 abbrev pub is_number : List ℕ → Bool

@@ -1,6 +1,7 @@
 -- How many digits there are, and how they come one by one from the last on.
-use Rattle.std.specs.Prelude.{ℕ, zero, suc, ◌+◌, ◌-◌, ◌/◌, ◌%◌, ◌<◌, ◌≤◌, ◌≡◌, refl, List, ◌∷◌, ◌++◌, length, take, drop, set, leb, ltb}
-use Rattle.std.proofs.Common.{ap, ◌∙◌, append_assoc, append-nil, arith, length-append, drop_at, length-take-le, leb-true, ltb-true, ltb-false, le-leb}
+use Rattle.std.specs.Prelude.{ℕ, zero, suc, ◌+◌, ◌-◌, ◌/◌, ◌%◌, ◌<◌, ◌≤◌, ◌≡◌, refl, Option, Some, None, MatchOption, List, ◌∷◌, ◌++◌, length, take, drop, set, leb, ltb}
+use Rattle.std.specs.Option.{unwrap_or}
+use Rattle.std.proofs.Common.{sym, ap, ◌∙◌, append_assoc, append-nil, arith, length-append, drop_at, length-take-le, leb-true, ltb-true, ltb-false, le-leb}
 use Rattle.std.proofs.Math.Seq.{drop-length}
 use Rattle.std.proofs.lemmas.List.{set_split}
 use Rattle.std.proofs.lemmas.Bool.{lt-leb}
@@ -17,6 +18,11 @@ unfolding nibble
 nibble-most c =
     by_cases (λ (n : ℕ). n ≤ 16) (within 48 57 c) (λ e. omega (arith, leb-true c 57 (both (leb 48 c) (leb c 57) e).1))
     (λ e. by_cases (λ (n : ℕ). n ≤ 16) (within 65 70 c) (λ f. omega (arith, leb-true c 70 (both (leb 65 c) (leb c 70) f).1)) (λ f. omega arith))
+
+-- a digit's value, and 16 for none
+pub nibble_or : (c : ℕ) (r : Option ℕ) → MatchOption r (nibble c ≡ 16) (λ v. (nibble c ≡ v) × (v < 16)) → unwrap_or r 16 ≡ nibble c
+nibble_or c None e = sym e
+nibble_or c (Some v) e = sym e.0
 
 -- reading a digit's character gives its value
 pub nibble-digit : (d : ℕ) → d < 16 → nibble (digit d) ≡ d

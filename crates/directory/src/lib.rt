@@ -3,6 +3,9 @@
 
 ghost use Rattle.std.specs.Prelude.{◌≡◌};
 ghost use Rattle.directory.specs.Directory.{trailer_of, trailer, trailer_refusal, entry_refusal};
+ghost use Rattle.refusal.specs.Refusal.{number_of};
+
+use refusal::Refusal;
 
 // The most bytes of a file.
 const LONGEST: usize = 16777216;
@@ -23,6 +26,7 @@ pub struct Trailer {
 }
 
 // A stretch of memory, and the place of its bytes in the file: a region, or a segment of one.
+// Place and length are numbers and no slice: `entry_refusal` judges them also where they lie outside the file.
 #[derive(Clone, Copy)]
 pub struct Region {
     pub address: u32,
@@ -47,60 +51,39 @@ fn fields(t: &[u8]) -> Trailer
 pub fn read_trailer(file: &[u8]) -> Trailer
     ensures { result ≡ trailer file.now }
 {
-    if file.len() < 16 {
-        return fields(file);
+    match file.last_chunk::<16>() {
+        Some(last) => fields(last),
+        None => fields(file),
     }
-    let at = file.len() - 16;
-    fields(&file[at..])
 }
 
-// Refusals 5 and 6, or 0: a file of n bytes with this trailer.
-pub fn trailer_refusal(n: usize, t: Trailer) -> u8
-    ensures { result ≡ trailer_refusal n t }
+// `Refusal::File` and `Refusal::Directory`: a file of n bytes with this trailer.
+#[tactic(auto, unfolding(crate::specs::Directory::demand))]
+pub fn trailer_refusal(n: usize, t: Trailer) -> Result<(), Refusal>
+    ensures { number_of result ≡ trailer_refusal n t }
 {
-    let length = t.length as usize;
     let total = t.directory as usize + 12 * (t.count as usize) + 16;
-    if n < 16 {
-        return 5; // too short
+    if !(16..=LONGEST).contains(&n) || t.length as usize != n {
+        return Err(Refusal::File);
     }
-    if LONGEST < n {
-        return 5; // too long
+    if !(1..=MOST).contains(&t.count) || total != n {
+        return Err(Refusal::Directory);
     }
-    if length != n {
-        return 5; // length field
-    }
-    if t.count < 1 {
-        return 6; // no entries
-    }
-    if MOST < t.count {
-        return 6; // too many entries
-    }
-    if total != n {
-        return 6; // directory offset
-    }
-    0
+    Ok(())
 }
 
-// Refusals 7 and 8, or 0: an entry, with the directory's start and the end of the region before.
-pub fn entry_refusal(directory: u32, end: u64, r: Region) -> u8
-    ensures { result ≡ entry_refusal directory end r }
+// `Refusal::Entry` and `Refusal::Overlap`: an entry, with the directory's start and the end of the region before.
+#[tactic(auto, unfolding(crate::specs::Directory::demand))]
+pub fn entry_refusal(directory: u32, end: u64, r: Region) -> Result<(), Refusal>
+    ensures { number_of result ≡ entry_refusal directory end r }
 {
-    let start = directory as u64;
-    let address = r.address as u64;
-    let length = r.length as u64;
-    let bytes_end = r.place as u64 + length;
-    let memory_end = address + length;
-    if length < 1 {
-        return 7; // empty
+    let bytes_end = u64::from(r.place) + u64::from(r.length);
+    let memory_end = u64::from(r.address) + u64::from(r.length);
+    if r.length < 1 || u64::from(directory) < bytes_end || ADDRESSES < memory_end {
+        return Err(Refusal::Entry);
     }
-    if start < bytes_end {
-        return 7; // bytes beyond the directory's start
+    if u64::from(r.address) < end {
+        return Err(Refusal::Overlap);
     }
-    if ADDRESSES < memory_end {
-        return 7; // memory beyond the last address
-    }
-    if address < end {
-        return 8; // over the region before
-    }
-    0
+    Ok(())
 }

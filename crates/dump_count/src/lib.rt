@@ -10,10 +10,7 @@ use dump_record::Sends;
 pub fn replies(takes: bool) -> u64
     ensures { result ≡ replies takes }
 {
-    if takes {
-        return 1;
-    }
-    0
+    u64::from(takes)
 }
 
 // How many frames go out.
@@ -22,7 +19,6 @@ pub fn frames(sends: Sends) -> u64
 {
     match sends {
         Sends::Nothing => 0,
-        Sends::Request => 1,
-        Sends::Complete => 1,
+        Sends::Request | Sends::Complete => 1,
     }
 }

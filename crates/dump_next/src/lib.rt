@@ -6,15 +6,16 @@ ghost use Rattle.dump_next.specs.Next.{takes, on_offer, on_data, react};
 
 use dump_record::{Next, Session, Settings};
 use message::Fields;
+use verdict::Verdict;
 
 // A machine offers a dump: the first bytes are asked for.
 fn on_offer(h: Session) -> Next
     ensures { result ≡ on_offer h }
 {
     if h.waiting != 1 {
-        return dump_record::ignored(h);
+        return h.ignored();
     }
-    dump_record::asks(dump_record::reached(h, 0), false)
+    h.reached(0).asks(false)
 }
 
 // A reply is taken: full, or the next bytes are asked for.
@@ -24,45 +25,36 @@ fn taken(s: Settings, h: Session) -> Next
 {
     let missing = s.length - h.filled;
     if missing == 0 {
-        return dump_record::completes(h, 1, true);
+        return h.completes(Verdict::Finished, true);
     }
-    dump_record::asks(h, true)
+    h.asks(true)
 }
 
 // A reply of so many bytes is taken if its address is the one sent for and it has 1 to as many bytes as asked for.
 fn on_data(s: Settings, h: Session, address: u32, length: usize) -> Next
     ensures { result ≡ on_data s h address length }
 {
-    if h.waiting != 0 {
-        return dump_record::ignored(h);
+    if h.waiting == 0
+        && s.address <= address
+        && u64::from(address - s.address) == h.filled
+        && 1 <= length
+        && length as u64 <= h.asked(s)
+    {
+        return taken(s, h.reached(h.filled + length as u64));
     }
-    if address < s.address {
-        return dump_record::ignored(h);
-    }
-    if (address - s.address) as u64 != h.filled {
-        return dump_record::ignored(h);
-    }
-    if length < 1 {
-        return dump_record::ignored(h);
-    }
-    let asked = dump_record::asked(s, h);
-    if asked < length as u64 {
-        return dump_record::ignored(h);
-    }
-    taken(s, dump_record::reached(h, h.filled + length as u64))
+    h.ignored()
 }
 
-// On a frame it decides by its code.
+// On a frame it decides by its code, which is a number for C.
 pub fn react(settings: Settings, session: Session, f: Fields) -> Next
     ensures { result ≡ react settings session f }
 {
-    if session.verdict != 0 {
-        return dump_record::ignored(session);
+    if !session.running() {
+        return session.ignored();
     }
-    let code = f.code;
-    match code {
+    match f.code {
         12 => on_offer(session),
         14 => on_data(settings, session, f.address, f.data_length),
-        _ => dump_record::ignored(session),
+        _ => session.ignored(),
     }
 }

@@ -29,6 +29,10 @@ changed h filled repeats waiting verdict =
 abbrev pub reached : Session → ℕ → Session
 reached h filled = changed h filled 0 0 h.verdict
 
+-- one more repeat is used
+abbrev pub repeated : Session → Session
+repeated h = changed h h.filled (h.repeats + 1) h.waiting h.verdict
+
 -- there is a verdict
 abbrev pub ended : Session → ℕ → Session
 ended h verdict = changed h h.filled h.repeats h.waiting verdict

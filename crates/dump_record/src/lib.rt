@@ -1,11 +1,13 @@
 // The record of the host's end of a dump (PROTOCOL 5, 'Host end'): its settings, its updates, and what can be done next.
 #![tactic(auto)]
 
-ghost use Rattle.std.specs.Prelude.{◌≡◌, true, false};
+ghost use Rattle.std.specs.Prelude.{◌≡◌, true, false, ◌<◌, ◌≤◌, eqb};
 ghost use Rattle.counts.specs.Counts.{below};
-ghost use Rattle.dump_record.specs.Record.{fresh, asked, reached, ignores, asks, completes, standing, with_counts, tallied};
+ghost use Rattle.dump_record.specs.Record.{fresh, asked, reached, repeated, ignores, asks, completes, standing, with_counts, tallied};
+ghost use Rattle.verdict.specs.Verdict.{number};
 
 use counts::{Counts, Standing};
+use verdict::Verdict;
 
 // Its settings: L bytes from address A; C, the most bytes asked for at a time; R, the repeats allowed per frame; and the
 // version.
@@ -21,7 +23,7 @@ pub struct Settings {
 
 // Its record: the bytes filled, the replies taken, the frames sent; what the frames that it was handed came to; the repeats
 // of the frame on its way; whether it still waits for an offer (1) or not (0); the verdict: 0 running, 1 finished, 3 given
-// up.
+// up. Mark and verdict are numbers, since C has the record and may give any.
 #[repr(C)]
 #[derive(Clone, Copy)]
 pub struct Session {
@@ -58,91 +60,111 @@ pub fn start() -> Session
         filled: 0,
         replies: 0,
         sent: 0,
-        counts: counts::zero(),
+        counts: Counts::zero(),
         repeats: 0,
         waiting: 1,
-        verdict: 0,
+        verdict: Verdict::Running.into(),
     }
 }
 
-// How many bytes to ask for: the lesser of C and what is missing.
-pub fn asked(s: Settings, h: Session) -> u64
-    ensures { result ≡ asked s h }
-{
-    if s.length < h.filled {
-        return 0;
+// A load's record and a loop test's have methods like these. A record is C's, and `Next` has other fields in each: a trait
+// over them would need a reader and a setter of each field that they use, and be no plainer.
+impl Session {
+    // Whether there is no verdict yet.
+    pub fn running(self) -> bool
+        ensures { result ≡ eqb self.verdict 0 }
+    {
+        self.verdict == Verdict::Running.into()
     }
-    octets::lesser(s.request_bytes as u64, s.length - h.filled)
-}
 
-// It asks, with so many bytes filled.
-pub fn reached(h: Session, filled: u64) -> Session
-    ensures { result ≡ reached h filled }
-{
-    let mut next = h;
-    next.filled = filled;
-    next.repeats = 0;
-    next.waiting = 0;
-    next
-}
-
-// Nothing changes, and nothing goes out.
-pub fn ignored(h: Session) -> Next
-    ensures { result ≡ ignores h }
-{
-    Next {
-        session: h,
-        takes: false,
-        sends: Sends::Nothing,
+    // How many bytes to ask for: the lesser of C and what is missing.
+    pub fn asked(self, s: Settings) -> u64
+        ensures { result ≡ asked s self }
+    {
+        u64::from(s.request_bytes).min(s.length.saturating_sub(self.filled))
     }
-}
 
-// The next bytes are asked for.
-pub fn asks(h: Session, takes: bool) -> Next
-    ensures { result ≡ asks h takes }
-{
-    Next {
-        session: h,
-        takes,
-        sends: Sends::Request,
+    // It asks, with so many bytes filled.
+    pub fn reached(self, filled: u64) -> Session
+        ensures { result ≡ reached self filled }
+    {
+        Session {
+            filled,
+            repeats: 0,
+            waiting: 0,
+            ..self
+        }
     }
-}
 
-// The dump ends with a verdict.
-pub fn completes(h: Session, verdict: u8, takes: bool) -> Next
-    ensures { result ≡ completes h verdict takes }
-{
-    let mut last = h;
-    last.verdict = verdict;
-    Next {
-        session: last,
-        takes,
-        sends: Sends::Complete,
+    // One more repeat is used, if there is a number for it. Two cases, as the definition `repeated` has no largest number.
+    pub fn repeated(self) -> Session
+        ensures { (self.repeats < 4294967295 → result ≡ repeated self) × (4294967295 ≤ self.repeats → result ≡ self) }
+    {
+        Session {
+            repeats: self.repeats.saturating_add(1),
+            ..self
+        }
     }
-}
 
-// Where it stands, for the counts.
-pub fn standing(h: Session) -> Standing
-    ensures { result ≡ standing h }
-{
-    Standing {
-        reached: h.filled,
-        restarts: 0,
-        waiting: h.waiting,
-        verdict: h.verdict,
+    // Nothing changes, and nothing goes out. Two functions and no flag: the definitions `ignores` and `asks` are two.
+    pub fn ignored(self) -> Next
+        ensures { result ≡ ignores self }
+    {
+        Next {
+            session: self,
+            takes: false,
+            sends: Sends::Nothing,
+        }
     }
-}
 
-// The frame is counted that brought the record h to what is done next, if there are numbers for it.
-pub fn tallied(h: Session, next: Next) -> Next
-    ensures { (below h.counts ≡ true → result ≡ tallied h next) × (below h.counts ≡ false → result ≡ with_counts h.counts next) }
-{
-    let mut session = next.session;
-    let sends = next.sends;
-    session.counts = counts::tally(standing(h), standing(next.session), h.counts);
-    Next {
-        session,
-        takes: next.takes,
-        sends,
+    // The next bytes are asked for.
+    pub fn asks(self, takes: bool) -> Next
+        ensures { result ≡ asks self takes }
+    {
+        Next {
+            session: self,
+            takes,
+            sends: Sends::Request,
+        }
+    }
+
+    // The dump ends with a verdict.
+    pub fn completes(self, verdict: Verdict, takes: bool) -> Next
+        ensures { result ≡ completes self (number verdict) takes }
+    {
+        Next {
+            session: Session {
+                verdict: verdict.into(),
+                ..self
+            },
+            takes,
+            sends: Sends::Complete,
+        }
+    }
+
+    // Where it stands, for the counts. `Standing::from` would be the same four fields, under a head of three lines.
+    pub fn standing(self) -> Standing
+        ensures { result ≡ standing self }
+    {
+        Standing {
+            reached: self.filled,
+            restarts: 0,
+            waiting: self.waiting,
+            verdict: self.verdict,
+        }
+    }
+
+    // The frame is counted that brought this record to what is done next, if there are numbers for it.
+    pub fn tallied(self, next: Next) -> Next
+        ensures { (below self.counts ≡ true → result ≡ tallied self next) × (below self.counts ≡ false → result ≡ with_counts self.counts next) }
+    {
+        let counts = self.counts.tally(self.standing(), next.session.standing());
+        Next {
+            session: Session {
+                counts,
+                ..next.session
+            },
+            ..next
+        }
     }
 }

@@ -1,13 +1,9 @@
 -- What the host's end of a dump does next on a timer (PROTOCOL 5, 'Host end').
-use Rattle.std.specs.Prelude.{◌+◌, false, cond as pick, eqb, ltb}
+use Rattle.std.specs.Prelude.{false, cond as pick, eqb, ltb}
 use Rattle.dump_record.specs.declared.Settings.{Settings}
 use Rattle.dump_record.specs.declared.Session.{Session}
 use Rattle.dump_record.specs.declared.Next.{Next}
-use Rattle.dump_record.specs.Record.{changed, ignores, asks, completes, running}
-
--- one more repeat is used
-abbrev pub repeated : Session → Session
-repeated h = changed h h.filled (h.repeats + 1) h.waiting h.verdict
+use Rattle.dump_record.specs.Record.{repeated, ignores, asks, completes, running}
 
 -- a timer while asking: the frame again if fewer than R repeats are used; else given up
 abbrev pub on_timer : Settings → Session → Next

@@ -1,61 +1,55 @@
 // Code 20: the entries, the end mark and the transfer address, over a whole string.
 #![tactic(auto)]
 
-ghost use Rattle.std.specs.Prelude.{◌≡◌, true, ℕ, ◌+◌, ◌<◌, ◌≤◌, length, take, drop};
+ghost use Rattle.std.specs.Prelude.{◌≡◌, true, ℕ, ◌<◌, length, drop, IfSome};
 ghost use Rattle.entries.specs.Grammar.{Fields};
 ghost use Rattle.entries.specs.Entries.{walk};
 
-use entries_next::Place;
+use entries_next::{Kind, Place};
 
-// The ten bytes from `at` on may be a host time's fields.
-fn time(s: &[u8], at: usize) -> bool
-    requires { at + 10 ≤ length s.now }
-    ensures { result ≡ true → Fields 0 0 (take 10 (drop at s.now)) }
+// The ten bytes may be a host time's fields. A loop over the bytes, whose number is not in the code, is three times slower.
+fn time(s: &[u8]) -> bool
+    requires { length s.now ≡ 10 }
+    ensures { result ≡ true → Fields 0 0 s.now }
 {
     let mut before = 0u8;
-    let mut k = 0u8;
-    while k < 10 {
-        let i = at + k as usize;
-        let b = s[i];
-        if !host_time::field(k, before, b) {
+    for k in 0..10 {
+        let b = s[k];
+        if !host_time::field(k as u8, before, b) {
             return false;
         }
         before = b;
-        k += 1;
     }
     true
 }
 
-// The place behind the entry at `at`; 0 if no whole entry of the list stands there.
-fn behind(version: u8, s: &[u8], at: usize) -> usize
-    requires { at < length s.now }
-    ensures { (result ≡ 0 → ⊥) → (at < result) × (walk version Place.Kind (drop result s.now) ≡ walk version Place.Kind (drop at s.now)) }
+// What stands behind the entry that a string begins with, if a whole entry of the list does.
+fn behind(version: u8, s: &[u8]) -> Option<&[u8]>
+    ensures { IfSome result (λ t. (length t.now < length s.now) × (walk version Place.Kind t.now ≡ walk version Place.Kind s.now)) }
 {
-    let value = at + 2;
-    if s.len() < value {
-        return 0;
+    let [kind, n, rest @ ..] = s else {
+        return None;
+    };
+    let size = usize::from(*n);
+    if rest.len() < size {
+        return None;
     }
-    let kind = s[at];
-    let n = s[at + 1];
-    let end = value + n as usize;
-    if s.len() < end {
-        return 0;
+    if !entries_next::listed(version, *kind, *n) {
+        return None;
     }
-    if !entries_next::listed(version, kind, n) {
-        return 0;
+    let value = &rest[..size];
+    let after = &rest[size..];
+    if *kind != Kind::HostTime.into() {
+        return Some(after);
     }
-    if kind != 5 {
-        return end;
-    }
-    if time(s, value) { end } else { 0 }
+    if time(value) { Some(after) } else { None }
 }
 
-// The place after the bytes from `at` on, which stand behind the end mark.
-fn transfer(s: &[u8], at: usize) -> Place
-    requires { at ≤ length s.now }
-    ensures { (version : ℕ) → result ≡ walk version (Place.Transfer 4) (drop at s.now) }
+// The place after the bytes behind the end mark.
+fn transfer(s: &[u8]) -> Place
+    ensures { (version : ℕ) → result ≡ walk version (Place.Transfer 4) s.now }
 {
-    let n = s.len() - at;
+    let n = s.len();
     if n <= 4 {
         Place::Transfer((4 - n) as u8)
     } else {
@@ -63,15 +57,13 @@ fn transfer(s: &[u8], at: usize) -> Place
     }
 }
 
-// The place after the bytes from `from` on, found byte by byte, up to the first that is outside the list.
-fn rest(version: u8, s: &[u8], from: usize) -> Place
-    ensures { result ≡ walk version Place.Kind (drop from s.now) }
+// The place after all the bytes, found byte by byte, up to the first that is outside the list.
+fn rest(version: u8, s: &[u8]) -> Place
+    ensures { result ≡ walk version Place.Kind s.now }
 {
     let mut p = Place::Kind;
-    let mut i = from;
-    while i < s.len() {
-        p = entries_next::next(version, p, s[i]);
-        i += 1;
+    for b in s {
+        p = entries_next::next(version, p, *b);
         if let Place::Outside = p {
             return Place::Outside;
         }
@@ -81,19 +73,23 @@ fn rest(version: u8, s: &[u8], from: usize) -> Place
 
 // The place after the bytes from `from` on, an entry's type first; past the end there are none.
 // Whole entries are passed over one at a time; bytes that are none of them end the walk.
+// String and place are two arguments, as the contract answers a `from` past the end, where no slice begins.
 pub fn walk(version: u8, s: &[u8], from: usize) -> Place
     ensures { result ≡ walk version Place.Kind (drop from s.now) }
 {
-    let mut i = from;
-    while i < s.len() {
-        if s[i] == 0 {
-            return transfer(s, i + 1);
+    if s.len() < from {
+        return Place::Kind;
+    }
+    let mut left = &s[from..];
+    // An entry's length says where the next begins, which no iterator of the library does.
+    while let [kind, beyond @ ..] = left {
+        if *kind == 0 {
+            return transfer(beyond);
         }
-        let end = behind(version, s, i);
-        if end == 0 {
-            return rest(version, s, i);
+        match behind(version, left) {
+            Some(after) => left = after,
+            None => return rest(version, left),
         }
-        i = end;
     }
     Place::Kind
 }

@@ -1,10 +1,51 @@
 // Code 20's entries, end mark and transfer address: what a byte is, after the bytes before it (PROTOCOL 2, 'Messages').
 #![tactic(auto)]
 
-ghost use Rattle.std.specs.Prelude.{◌≡◌, ℕ};
+ghost use Rattle.std.specs.Prelude.{◌≡◌, MatchResult, ◌⊎◌, ◌<◌, ℕ};
+ghost use Rattle.refusal.specs.declared.Refusal.TheVariants.{Field};
+ghost use Rattle.entries_next.specs.Kind.{number};
 ghost use Rattle.entries_next.specs.Next.{longest_name, longest_address, last_kind, listed, more, next};
 
-// What the next byte is, or how the walk ended.
+use refusal::Refusal;
+
+// An entry's type, by its number on the wire.
+#[derive(Clone, Copy)]
+pub enum Kind {
+    TargetName = 1,
+    TargetAddress = 2,
+    HostName = 3,
+    HostAddress = 4,
+    HostTime = 5,
+}
+
+impl From<Kind> for u8 {
+    ghost from_gives = { λ k n. n ≡ number k };
+
+    // Its number.
+    fn from(k: Kind) -> u8 {
+        k as u8
+    }
+}
+
+impl TryFrom<u8> for Kind {
+    type Error = Refusal;
+
+    ghost try_from_gives = { λ n r. MatchResult r (λ k. number k ≡ n) (λ e. (e ≡ Field) × ((n ≡ 0) ⊎ (5 < n))) };
+
+    // The type of a number, if it is one.
+    fn try_from(n: u8) -> Result<Kind, Refusal> {
+        match n {
+            1 => Ok(Kind::TargetName),
+            2 => Ok(Kind::TargetAddress),
+            3 => Ok(Kind::HostName),
+            4 => Ok(Kind::HostAddress),
+            5 => Ok(Kind::HostTime),
+            _ => Err(Refusal::Field),
+        }
+    }
+}
+
+// What the next byte is, or how the walk ended. `Size` has a type's number, as in the theorem `grammar` and in `walk`.
 #[derive(Clone, Copy)]
 pub enum Place {
     // An entry's type, or the end mark.
@@ -44,22 +85,18 @@ fn last_kind(version: u8) -> u8
     version::by_version(version, 4, 5)
 }
 
-// An entry of this type may have this length.
+// An entry of this type may have this length. The type is any byte of a frame, and the contract answers every number.
 pub fn listed(version: u8, kind: u8, n: u8) -> bool
     ensures { result ≡ listed version kind n }
 {
     if last_kind(version) < kind {
         return false;
     }
-    let name = longest_name(version);
-    let address = longest_address(version);
-    match kind {
-        1 => n <= name, // target name
-        2 => n <= address, // target address
-        3 => n <= name, // host name
-        4 => n <= address, // host address
-        5 => n == 10, // host time
-        _ => false,
+    match Kind::try_from(kind) {
+        Ok(Kind::TargetName | Kind::HostName) => n <= longest_name(version),
+        Ok(Kind::TargetAddress | Kind::HostAddress) => n <= longest_address(version),
+        Ok(Kind::HostTime) => n == 10,
+        Err(_) => false,
     }
 }
 
@@ -70,6 +107,7 @@ fn more(n: u8) -> Place
     if n == 0 { Place::Kind } else { Place::Value(n) }
 }
 
+#[tactic(auto, unfolding(crate::specs::Next::next))]
 fn after_kind(version: u8, b: u8) -> Place
     ensures { result ≡ next version Place.Kind b }
 {
@@ -83,19 +121,21 @@ fn after_kind(version: u8, b: u8) -> Place
     }
 }
 
+#[tactic(auto, unfolding(crate::specs::Next::next))]
 fn after_size(version: u8, kind: u8, n: u8) -> Place
     ensures { result ≡ next version (Place.Size kind) n }
 {
     if !listed(version, kind, n) {
         return Place::Outside;
     }
-    if kind == 5 {
+    if kind == Kind::HostTime.into() {
         Place::Time(0, 0)
     } else {
         more(n)
     }
 }
 
+#[tactic(auto, unfolding(crate::specs::Next::next))]
 fn after_time(k: u8, before: u8, b: u8) -> Place
     ensures { (version : ℕ) → result ≡ next version (Place.Time k before) b }
 {
@@ -110,23 +150,17 @@ fn after_time(k: u8, before: u8, b: u8) -> Place
 }
 
 // The place after a byte.
+#[tactic(auto, unfolding(crate::specs::Next::next))]
 pub fn next(version: u8, p: Place, b: u8) -> Place
     ensures { result ≡ next version p b }
 {
     match p {
         Place::Kind => after_kind(version, b),
         Place::Size(kind) => after_size(version, kind, b),
-        Place::Value(n) => if 1 < n {
-            Place::Value(n - 1)
-        } else {
-            Place::Kind
-        },
+        Place::Value(n) => more(n.saturating_sub(1)),
         Place::Time(k, before) => after_time(k, before, b),
-        Place::Transfer(n) => if n == 0 {
-            Place::Excess
-        } else {
-            Place::Transfer(n - 1)
-        },
+        Place::Transfer(0) => Place::Excess,
+        Place::Transfer(n) => Place::Transfer(n - 1),
         Place::Outside => Place::Outside,
         Place::Excess => Place::Excess,
     }

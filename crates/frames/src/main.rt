@@ -2,14 +2,16 @@
 #![tactic(auto)]
 
 use hexadecimal::Line;
+use refusal::Refusal;
 use std::io::{self, Read, Write};
 
-// The first n bytes of a buffer.
-fn print<W: Write>(to: &mut W, out: &[u8], n: usize) -> io::Result<()> {
-    if n <= out.len() {
-        to.write_all(&out[..n])?;
+// Prints the text at a buffer's start, if it was written there. (`player::print` does so above the crates of a rehearsal, of
+// which this program needs none.)
+fn print<W: Write>(to: &mut W, out: &[u8], written: Result<usize, Refusal>) -> io::Result<()> {
+    match written {
+        Ok(n) => to.write_all(text::part(out, 0, n)),
+        Err(_) => Ok(()),
     }
-    Ok(())
 }
 
 // Prints each line that ends in a piece of the input, and answers the line so far.
@@ -21,12 +23,10 @@ fn feed<W: Write>(
     out: &mut [u8],
 ) -> io::Result<Line> {
     let mut at = line;
-    let mut i = 0;
-    while i < input.len() {
-        let fed = listing::feed(at, input[i], frame, out);
-        print(to, out, fed.written.length)?;
+    for c in input {
+        let fed = listing::feed(at, *c, frame, out);
+        print(to, out, fed.written)?;
         at = fed.line;
-        i += 1;
     }
     Ok(at)
 }
@@ -57,5 +57,5 @@ fn main(rt: HostRuntime) -> io::Result<()> {
     let mut out = [0u8; 3200];
     let line = read_all(&mut rt.reader(), &mut to, &mut input, &mut frame, &mut out)?;
     let last = listing::close(line, &frame, &mut out);
-    print(&mut to, &out, last.length)
+    print(&mut to, &out, last)
 }

@@ -1,10 +1,10 @@
 -- Bytes written one by one.
-use Rattle.std.specs.Prelude.{ℕ, ◌+◌, ◌*◌, ◌/◌, ◌%◌, ◌<◌, ◌≤◌, ◌≡◌, refl, List, [], ◌∷◌, ◌++◌, length, get_or, drop, ltb}
+use Rattle.std.specs.Prelude.{ℕ, ◌+◌, ◌*◌, ◌/◌, ◌%◌, ◌<◌, ◌≤◌, ◌≡◌, refl, List, [], ◌∷◌, ◌++◌, length, get_or, drop}
 use Rattle.std.proofs.Common.{arith, add-one, length-append, drop_of_length-le, drop-cons, lt-ltb}
 use Rattle.octets.specs.Number.{Octets}
 use Rattle.octets.specs.NumberLaws.{octets_tail}
 use Rattle.buffer.specs.Lay.{refused, written, Came}
-use Rattle.digits.specs.Digits.{digit, digits}
+use Rattle.digits.specs.Digits.{digits}
 use Rattle.digits.specs.Laws.{length_digits, nibble-digit}
 use Rattle.text.specs.Text.{placed, Added}
 use Rattle.text.specs.Laws.{adds, adds_append, adds-placed, placed-short}

@@ -1,5 +1,5 @@
 -- Reading a line character by character gives what the line stands for, cut to the buffer's length.
-use Rattle.std.specs.Prelude.{ℕ, suc, ◌+◌, ◌*◌, ◌/◌, ◌<◌, ◌≤◌, ◌≡◌, refl, Bool, true, false, ◌&&◌, not, cond, List, [], ◌∷◌, ◌++◌, length, get_or, take, drop, set, ltb}
+use Rattle.std.specs.Prelude.{ℕ, suc, ◌+◌, ◌*◌, ◌/◌, ◌%◌, ◌<◌, ◌≤◌, ◌≡◌, refl, Bool, true, false, ◌&&◌, not, cond, None, List, [], ◌∷◌, ◌++◌, length, get_or, take, drop, set, ltb}
 use Rattle.std.proofs.Common.{sym, ap, subst, ◌∙◌, append_assoc, append-nil, arith, add-one, add-zero, zero-add, length-set, length-take, length-append, length-drop, take-append-drop, drop_of_length-le, drop-cons, take_all, take-suc-set, ltb-true, ltb-false, lt-ltb}
 use Rattle.std.proofs.lemmas.List.{take-append-le, set_split}
 use Rattle.std.proofs.Math.Seq.{set_out}
@@ -9,7 +9,7 @@ use Rattle.digits.specs.Digits.{nibble}
 use Rattle.text.specs.Laws.{by_test, placed-short, placed-whole, over-append}
 use Rattle.hexadecimal.specs.declared.Line.{Line}
 use Rattle.hexadecimal.specs.Hexadecimal.{Decoded, not_hexadecimal, spelled, is_digit, before, hexadecimal, is_hexadecimal, decoded}
-use Rattle.hexadecimal.specs.Line.{is_foul, Held, held, opened, stepped, run, ended}
+use Rattle.hexadecimal.specs.Line.{waits, is_foul, Held, held, opened, stepped, run, ended}
 
 -- character by character
 pub run_at : (s : List ℕ) (i : ℕ) (h : Held) → i < length s → run (drop i s) h ≡ run (drop (i + 1) s) (stepped h (get_or s i 0))
@@ -43,15 +43,19 @@ join-full k v b (spelled s) h =
     let n : length b ≤ length (take k b) = simp length-take (omega arith) in
     rw (set_out b k v h) (ap spelled (take-append-le (length b) (take k b) s n ∙ sym (take-append-le (length b) (take k b) (v ∷ s) n)))
 
+-- a digit is below 16
+digit_below : (c : ℕ) → is_digit c ≡ true → nibble c % 16 ≡ nibble c
+digit_below c d = omega (arith, ltb-true (nibble c) 16 d)
+
 -- a line between two bytes, with k bytes kept
 abbrev between : ℕ → Bool → List ℕ → Held
-between k begun buffer = held (record { length = k; high = 16; foul = false; begun = begun }) buffer
+between k begun buffer = held (record { length = k; high = None; foul = false; begun = begun }) buffer
 
 foul_stays : (cs : List ℕ) (h : Held) → h.line.foul ≡ true → ended (run cs h) ≡ not_hexadecimal
 unfolding run
 foul_stays [] h e = rw e
 foul_stays (c ∷ rest) h e =
-    foul_stays rest (stepped h c) (by_cases (λ (l : Line). l.foul ≡ true) (is_digit c) (λ d. by_cases (λ (l : Line). l.foul ≡ true) (ltb h.line.high 16) (λ w. e) (λ w. e)) (λ d. refl))
+    foul_stays rest (stepped h c) (by_cases (λ (l : Line). l.foul ≡ true) (is_digit c) (λ d. by_cases (λ (l : Line). l.foul ≡ true) (waits h.line.high) (λ w. e) (λ w. e)) (λ d. refl))
 
 run-between : (cs : List ℕ) (k : ℕ) (g : Bool) (b : List ℕ) → k ≤ length b → ended (run cs (between k g b)) ≡ joined (length b) (take k b) (hexadecimal cs)
 unfolding run hexadecimal
@@ -67,11 +71,11 @@ run-between (x ∷ y ∷ rest) k g b l =
     let whole : joined (length b) (take k b) (hexadecimal (x ∷ y ∷ rest)) ≡ joined (length b) (take k b) (before v (hexadecimal rest)) = rw (dx, dy) in
     by_test (ltb k (length b)) _
     (λ r.
-    let s : stepped h y ≡ between (k + 1) true (set b k v) = simp (dx, dy, r) in
+    let s : stepped h y ≡ between (k + 1) true (set b k v) = simp (dx, dy, r, digit_below x dx) in
     let room = ltb-true k (length b) r in
     ap (λ (z : Held). ended (run rest z)) s ∙ run-between rest (k + 1) true (set b k v) (simp length-set (omega arith)) ∙ join-room k v b (hexadecimal rest) room ∙ sym whole)
     (λ r.
-    let s : stepped h y ≡ between k true (set b k v) = simp (dx, dy, r) in
+    let s : stepped h y ≡ between k true (set b k v) = simp (dx, dy, r, digit_below x dx) in
     ap (λ (z : Held). ended (run rest z)) s ∙ run-between rest k true (set b k v) (simp length-set l) ∙ join-full k v b (hexadecimal rest) (ltb-false k (length b) r) ∙ sym whole))
     (λ fy. foul_stays rest (stepped h y) (rw fy) ∙ (rw (dx, fy))))
     (λ fx. foul_stays (y ∷ rest) h (rw fx) ∙ (rw fx))
@@ -136,7 +140,7 @@ run-spelled (x ∷ y ∷ rest) k g b s e h =
     let f = front x y rest s e in
     let t = f.behind in
     let n : length s ≡ suc (length t) = ap length f.whole_is in
-    let a : stepped (stepped (between k g b) x) y ≡ between (k + 1) true (set b k v) = simp (f.high, f.low, lt-ltb k (length b) (omega arith)) in
+    let a : stepped (stepped (between k g b) x) y ≡ between (k + 1) true (set b k v) = simp (f.high, f.low, lt-ltb k (length b) (omega arith), digit_below x f.high) in
     let l = run-spelled rest (k + 1) true (set b k v) t f.rest-is (simp length-set (omega arith)) in
     let m : Leaves (run rest (between (k + 1) true (set b k v))) k (v ∷ t) b = (omega (arith, l.0), l.1 ∙ over-byte v t k b (omega arith)) in
     subst (λ (z : Held). Leaves (run rest z) k s b) (sym a) (rw f.whole_is m)

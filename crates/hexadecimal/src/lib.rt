@@ -2,14 +2,14 @@
 #![tactic(auto)]
 
 ghost use Rattle.std.specs.Prelude.{◌≡◌, ◌++◌, ◌+◌, ◌*◌, length, ltb};
-ghost use Rattle.buffer.specs.Lay.{Came};
+ghost use Rattle.buffer.specs.Lay.{Came, written_of};
 ghost use Rattle.text.specs.Text.{placed, Added};
 ghost use Rattle.hexadecimal.specs.Hexadecimal.{pairs, address, hexadecimal, is_hexadecimal, decoded};
 ghost use Rattle.hexadecimal.specs.Line.{fresh, next, kept, is_foul, opened, run};
 
-use buffer::Written;
+use refusal::Refusal;
 
-// ---- Written.
+// ---- Written, into lent buffers from a place on: `text` says why.
 
 // Adds bytes to a text.
 pub fn pairs(s: &[u8], out: &mut [u8], at: usize) -> usize
@@ -21,12 +21,10 @@ pub fn pairs(s: &[u8], out: &mut [u8], at: usize) -> usize
     if (out.len() - at) / 2 < s.len() {
         return out.len() + 1;
     }
-    let mut i = 0;
     let mut to = at;
-    while i < s.len() {
-        let two = digits::pair(s[i]);
+    for b in s {
+        let two = digits::pair(*b);
         to = text::add(&two, out, to);
-        i += 1;
     }
     to
 }
@@ -43,44 +41,31 @@ pub fn address(n: usize, out: &mut [u8], at: usize) -> usize
 fn lacks(head: usize, bytes: usize, tail: usize, room: usize) -> bool
     ensures { result ≡ ltb room (head + (2 * bytes + tail)) }
 {
-    if room < head {
-        return true;
-    }
-    let behind = room - head;
-    if behind < tail {
-        return true;
-    }
-    (behind - tail) / 2 < bytes
+    room < head || room - head < tail || (room - head - tail) / 2 < bytes
 }
 
-// A text, bytes, a text. Refusal 9 for a buffer that is too short.
-pub fn print(head: &[u8], s: &[u8], tail: &[u8], out: &mut [u8]) -> Written
-    ensures { Came (placed (head.now ++ (pairs s.now ++ tail.now)) out.old) result out.new }
+// A text, bytes, a text. `Refusal::Buffer` for a buffer that is too short.
+pub fn print(head: &[u8], s: &[u8], tail: &[u8], out: &mut [u8]) -> Result<usize, Refusal>
+    ensures { Came (placed (head.now ++ (pairs s.now ++ tail.now)) out.old) (written_of result) out.new }
 {
     if lacks(head.len(), s.len(), tail.len(), out.len()) {
-        return Written {
-            length: 0,
-            refusal: 9,
-        };
+        return Err(Refusal::Buffer);
     }
     let a = text::add(head, out, 0);
     let b = pairs(s, out, a);
     let end = text::add(tail, out, b);
-    Written {
-        length: end,
-        refusal: 0,
-    }
+    Ok(end)
 }
 
 // ---- Read, character by character.
 
-// A line so far.
+// A line so far. Its bytes lie in a buffer that is lent at each step, since there is no heap.
 #[derive(Clone, Copy)]
 pub struct Line {
     // The bytes that the buffer keeps.
     pub length: usize,
-    // A digit that waits for the second one of its byte; 16 if none does.
-    pub high: u8,
+    // A digit that waits for the second one of its byte.
+    pub high: Option<u8>,
     // Some character is no digit.
     pub foul: bool,
     // There is a character.
@@ -93,7 +78,7 @@ pub fn start() -> Line
 {
     Line {
         length: 0,
-        high: 16,
+        high: None,
         foul: false,
         begun: false,
     }
@@ -104,32 +89,36 @@ pub fn step(line: Line, c: u8, buffer: &mut [u8]) -> Line
     ensures { (result ≡ next (length buffer.old) line c)
         × (buffer.new ≡ kept line c buffer.old) }
 {
-    let mut after = line;
-    after.begun = true;
-    let low = digits::nibble(c);
-    if 16 <= low {
-        after.foul = true;
-        return after;
-    }
-    let high = line.high;
-    if 16 <= high {
-        after.high = low;
-        return after;
-    }
-    after.high = 16;
+    let line = Line {
+        begun: true,
+        ..line
+    };
+    let Some(low) = digits::nibble(c) else {
+        return Line { foul: true, ..line };
+    };
+    let Some(high) = line.high else {
+        return Line {
+            high: Some(low),
+            ..line
+        };
+    };
     let at = line.length;
-    if at < buffer.len() {
-        buffer[at] = high * 16 + low;
-        after.length = at + 1;
+    if buffer.len() <= at {
+        return Line { high: None, ..line };
     }
-    after
+    buffer[at] = high % 16 * 16 + low;
+    Line {
+        length: at + 1,
+        high: None,
+        ..line
+    }
 }
 
 // A line that ends here is no hexadecimal: a character is no digit, or a digit waits for the second one.
 pub fn is_foul(line: Line) -> bool
     ensures { result ≡ is_foul line }
 {
-    line.foul || line.high < 16
+    line.foul || line.high.is_some()
 }
 
 // All characters of a line.
@@ -138,10 +127,8 @@ fn run(s: &[u8], buffer: &mut [u8]) -> Line
         × (buffer.new ≡ (run s.now (opened buffer.old)).buffer) }
 {
     let mut line = start();
-    let mut i = 0;
-    while i < s.len() {
-        line = step(line, s[i], buffer);
-        i += 1;
+    for c in s {
+        line = step(line, *c, buffer);
     }
     line
 }
@@ -155,26 +142,17 @@ pub fn is_hexadecimal(s: &[u8]) -> bool
     !is_foul(line)
 }
 
-// The bytes that digits spell, into a lent buffer: 10 for what is no hexadecimal, then 9 for a buffer that is too short. A
-// refusal leaves the buffer as it was; bytes past the written ones stay.
-pub fn decode(s: &[u8], out: &mut [u8]) -> Written
-    ensures { Came (decoded (hexadecimal s.now) out.old) result out.new }
+// The bytes that digits spell, into a lent buffer: `Refusal::Setting` for what is no hexadecimal, then `Refusal::Buffer`
+// for a buffer that is too short. A refusal leaves the buffer as it was; bytes past the written ones stay.
+pub fn decode(s: &[u8], out: &mut [u8]) -> Result<usize, Refusal>
+    ensures { Came (decoded (hexadecimal s.now) out.old) (written_of result) out.new }
 {
     if !is_hexadecimal(s) {
-        return Written {
-            length: 0,
-            refusal: 10,
-        };
+        return Err(Refusal::Setting);
     }
     if out.len() < s.len() / 2 {
-        return Written {
-            length: 0,
-            refusal: 9,
-        };
+        return Err(Refusal::Buffer);
     }
     let line = run(s, out);
-    Written {
-        length: line.length,
-        refusal: 0,
-    }
+    Ok(line.length)
 }

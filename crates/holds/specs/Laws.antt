@@ -1,7 +1,7 @@
 -- What is kept of a string of entries holds what the string says: of each type the last entry's value.
-use Rattle.std.specs.Prelude.{ℕ, zero, suc, ◌+◌, ◌-◌, ◌≤◌, ◌<◌, min, ◌≡◌, Bool, true, false, cond as pick, List, [], ◌∷◌, ◌++◌, ◌⊎◌, length, take, drop, replicate, eqb, leb}
+use Rattle.std.specs.Prelude.{ℕ, zero, suc, ◌+◌, ◌-◌, ◌≤◌, ◌≡◌, Bool, true, false, cond as pick, List, [], ◌∷◌, ◌++◌, ◌⊎◌, length, replicate, eqb, leb}
 use Rattle.std.proofs.Math.Path.{refl}
-use Rattle.std.proofs.Common.{ap, sym, ◌∙◌, append_assoc, inl, inr, arith, take_at, drop_at, take_all}
+use Rattle.std.proofs.Common.{◌∙◌, append_assoc, inl, inr, arith, take_at, drop_at, take_all}
 use Rattle.std.proofs.lemmas.Bool.{false≢true}
 use borrow.Author.Tests.{eqb-true, eqb-false, eq-eqb, ne_eqb, leb-true}
 use Rattle.octets.specs.TestLaws.{by_cases, both}

@@ -1,4 +1,6 @@
 // The host's turns in a rehearsal: on the machine's first frame, and at its timer (PROTOCOL 8, 'Rehearsal').
+// The machine's turns are another crate: they are lent memory to change where these read a file, and one contract for both
+// would say of each end what is so of the other alone.
 #![tactic(auto)]
 
 ghost use Rattle.std.specs.Prelude.{◌≡◌, List, ℕ, take};
@@ -6,21 +8,17 @@ ghost use Rattle.job.specs.Run.{run, host_sent, host_moves, Left, Joined};
 ghost use Rattle.host_turns.specs.Turns.{host_handed, host_timed, host_turn};
 
 use job::{Ends, Moved};
-use load::Stepped;
 use load_record::Settings;
 
 // A call's frame, in the reply buffer, joins the host's queue.
-fn send(ends: Ends, stepped: Stepped, reply: &[u8], places: &mut [[u8; 1500]; 16]) -> Moved
-    ensures { Joined (host_sent ends stepped.session) ends.from_host places.old stepped.answer.length
-        (take stepped.answer.length reply.now) result places.new }
+fn send(ends: Ends, sent: usize, reply: &[u8], places: &mut [[u8; 1500]; 16]) -> Moved
+    ensures { Joined (host_sent ends ends.session) ends.from_host places.old sent (take sent reply.now) result places.new }
 {
-    let sent = stepped.answer.length;
-    let session = stepped.session;
-    let queue = queue::send(ends.from_host, reply, sent, places);
-    let mut next = ends;
-    next.session = session;
-    next.from_host = queue;
-    Moved { ends: next, sent }
+    let ends = Ends {
+        from_host: ends.from_host.send(reply, sent, places),
+        ..ends
+    };
+    Moved { ends, sent }
 }
 
 // The machine's first frame is handed over to the host; without one nothing happens.
@@ -36,13 +34,13 @@ fn on_frame(
         (host_handed settings file.now (run ends memory places.old machine_places.now reply.old)))
         result.ends result.sent memory places.new machine_places.now reply.new }
 {
-    let frame = queue::first(ends.from_machine, machine_places);
-    if frame.len() == 0 {
+    let frame = ends.from_machine.frame(machine_places);
+    if frame.is_empty() {
         return Moved { ends, sent: 0 };
     }
-    let none = [0u8; 0];
-    let stepped = load::frame(settings, ends.session, file, &none, frame, reply);
-    send(ends, stepped, reply, places)
+    let mut session = ends.session;
+    let sent = load::frame(settings, &mut session, file, &[], frame, reply).unwrap_or(0);
+    send(Ends { session, ..ends }, sent, reply, places)
 }
 
 // The host's timer.
@@ -57,12 +55,13 @@ fn on_timer(
         (host_timed settings file.now (run ends memory places.old machines reply.old)))
         result.ends result.sent memory places.new machines reply.new }
 {
-    let none = [0u8; 0];
-    let stepped = load::timer(settings, ends.session, file, &none, reply);
-    send(ends, stepped, reply, places)
+    let mut session = ends.session;
+    let sent = load::timer(settings, &mut session, file, &[], reply).unwrap_or(0);
+    send(Ends { session, ..ends }, sent, reply, places)
 }
 
-// The host's timer, or the machine's first frame.
+// The host's timer, or the machine's first frame. By a bool, as the definition `host_turn`: `rehearse::event` gives its
+// values once, and not once for each of both.
 pub fn act(
     settings: Settings,
     ends: Ends,

@@ -10,11 +10,12 @@ use lib.Dec.{leb, ltb}
 use borrow.Author.Tests.{ltb-true, ltb-false, leb-true, leb-false, lt-ltb, le-ltb, le-leb, lt-leb, eq-eqb, ne_eqb}
 use Rattle.octets.specs.TestLaws.{by_cases}
 use Rattle.directory.specs.Directory.{addresses, entry_at, entries, ending, demand, entry_refusal, entries_refusal}
-use Rattle.image.specs.Image.{parts, cut, many, segment, tallied}
+use Rattle.image.specs.Image.{parts, cut, many, segment}
+use Rattle.std.specs.Prelude.{Ok}
+use Rattle.refusal.specs.Refusal.{Answers}
 use Rattle.directory.specs.Laws.{fit, entries_cons}
 use Rattle.image.specs.Laws.{segment-here, segment-beyond}
 use Rattle.image.specs.Walk.{Reached, region, reaching, part_of}
-use Rattle.directory.specs.declared.Trailer.{Trailer}
 use Rattle.directory.specs.declared.Region.{Region}
 use Rattle.image.specs.declared.Reach.{Reach}
 
@@ -96,13 +97,12 @@ module _ (file : List ℕ) (directory S i end m at left : ℕ) (x : Reach) (all 
       rw e (rw (ne_eqb (entry_refusal directory end (entry_at file at)) 0 wrong) at apart.refusal)
 
 -- no entry is left
-pub done : (file : List ℕ) (directory S i end m at left : ℕ) (t : Trailer) (x : Reach) (all : List Region) (p : Region)
+pub done : (file : List ℕ) (directory S i end m at left : ℕ) (x : Reach) (all : List Region) (p : Region)
     → left ≤ 0 → Rest file directory S i end m x (entries file at left) all → p ≡ part_of file S x m i
-    → record { refusal = 0; regions = t.count; transfer = t.transfer; segments = m; segment = p }
-    ≡ tallied (entries_refusal directory 0 all) t S i all
+    → Answers {T = ℕ × Region} (Ok (m, p)) (entries_refusal directory 0 all) (many S all, segment S all i)
 unfolding entries entries_refusal many segment
-done file directory S i end m at zero t x all p l k e =
+done file directory S i end m at zero x all p l k e =
     let count : many S all ≡ m = omega (arith, k.count) in
     let reach : p ≡ segment S all i = e ∙ k.reach in
-    simp (eq-eqb _ _ (sym k.refusal), count, reach)
-done file directory S i end m at (suc left) t x all p l k e = absurd (omega arith)
+    (sym k.refusal, rw (count, reach))
+done file directory S i end m at (suc left) x all p l k e = absurd (omega arith)

@@ -1,9 +1,9 @@
 -- Image files cut into segments (PROTOCOL 3, 'Image files'): the segments, and what a walk over the directory finds.
 -- A `Region` and a `Tally` are the code's own types.
-use Rattle.std.specs.Prelude.{ℕ, zero, suc, ◌+◌, ◌-◌, ◌*◌, ◌/◌, min, cond as pick, List, [], ◌∷◌, ◌++◌, eqb, leb, ltb}
+use Rattle.std.specs.Prelude.{ℕ, zero, suc, ◌+◌, ◌-◌, ◌*◌, ◌/◌, min, cond as pick, List, [], ◌∷◌, ◌++◌, leb, ltb}
 use Rattle.directory.specs.declared.Trailer.{Trailer}
 use Rattle.directory.specs.declared.Region.{Region}
-use Rattle.directory.specs.Directory.{trailer, regions, bytes, nowhere, demand, refusal}
+use Rattle.directory.specs.Directory.{regions, bytes, nowhere, demand, refusal}
 use Rattle.image.specs.declared.Tally.{Tally}
 
 -- the most bytes of a segment
@@ -52,17 +52,6 @@ abbrev pub segment_of : List ℕ → ℕ → ℕ → Piece
 segment_of file S i =
     record { address = (segment S (regions file) i).address; bytes = bytes file (segment S (regions file) i) }
 
--- ---- the answer, all numbers 0 where refused
-abbrev pub no_tally : ℕ → Tally
-no_tally n = record { refusal = n; regions = 0; transfer = 0; segments = 0; segment = nowhere }
-
--- refusal n; if it is 0, what the trailer says, the number of segments of S bytes, and segment i, nowhere if there is none
-abbrev pub tallied : ℕ → Trailer → ℕ → ℕ → List Region → Tally
-tallied n t S i rs =
-    pick (eqb n 0)
-    (record { refusal = 0; regions = t.count; transfer = t.transfer; segments = many S rs; segment = segment S rs i })
-    (no_tally n)
-
--- what `survey` answers
-abbrev pub surveyed : List ℕ → ℕ → ℕ → Tally
-surveyed file S i = tallied (cut_refusal file S) (trailer file) S i (regions file)
+-- what `survey` finds: what the trailer says, the number of segments of S bytes, and segment i, nowhere if there is none
+abbrev pub tally : Trailer → ℕ → ℕ → List Region → Tally
+tally t S i rs = record { regions = t.count; transfer = t.transfer; segments = many S rs; segment = segment S rs i }

@@ -1,15 +1,13 @@
 -- Laws of segments: where they are cut from, what each is in an accepted file, and what a survey that accepts says.
-use Rattle.std.specs.Prelude.{ℕ, zero, suc, ◌+◌, ◌-◌, ◌≤◌, ◌<◌, Bool, true, false, cond as pick, ◌≡◌, List, [], ◌∷◌, eqb, ltb, length, get_or, take}
-use Rattle.std.proofs.Math.Path.{refl, sym}
-use Rattle.std.proofs.Common.{◌∙◌, zero-add, add_assoc, arith, ltb-true, ltb-false, leb-true, eqb-true, lt-ltb, le-ltb, eq-eqb}
+use Rattle.std.specs.Prelude.{ℕ, zero, suc, ◌+◌, ◌-◌, ◌≤◌, ◌<◌, Bool, true, false, cond as pick, ◌≡◌, List, [], ◌∷◌, ltb, length, get_or, take}
+use Rattle.std.proofs.Math.Path.{refl}
+use Rattle.std.proofs.Common.{◌∙◌, zero-add, add_assoc, arith, ltb-true, ltb-false, leb-true, lt-ltb, le-ltb}
 use Rattle.std.proofs.Math.Nat.{add-sub_cancel_left}
-use Rattle.octets.specs.TestLaws.{by_cases}
 use Rattle.directory.specs.declared.Region.{Region}
 use Rattle.directory.specs.Directory.{addresses, trailer, regions, ending, nowhere, entries_refusal}
 use Rattle.directory.specs.Laws.{met, first-none, Fit, accepted_cons, length-entries, Placed, placed}
-use Rattle.image.specs.Image.{widest, cut_refusal, parts, cut, many, segment, segment_of, surveyed}
+use Rattle.image.specs.Image.{widest, cut_refusal, parts, cut, many, segment, segment_of}
 use Rattle.image.specs.PartsLaws.{parts-some, parts-bound, part-begins, length-bytes}
-use Rattle.image.specs.declared.Tally.{Tally}
 
 -- ---- segments
 -- the first region's parts come first, then the segments of the others
@@ -122,35 +120,3 @@ module _ (file : List ℕ) (S : ℕ) (h : cut_refusal file S ≡ 0) where
 
   pub length-segment : (i : ℕ) → i < many S (regions file) → length (segment_of file S i).bytes ≡ (segment S (regions file) i).length
   length-segment i l = length-bytes file (segment S (regions file) i) (file_segment i l).within
-
--- ---- a survey
--- a survey that accepts says that all is well, and gives the file's numbers
-pub record Agrees (file : List ℕ) (S i : ℕ) (a : Tally) : Type 0 where
-  pub none : cut_refusal file S ≡ 0
-  pub started : a.transfer ≡ (trailer file).transfer
-  pub numbered : a.segments ≡ many S (regions file)
-  pub reached : a.segment ≡ segment S (regions file) i
-
-module _ (file : List ℕ) (S i : ℕ) where
-  whole : Tally
-  whole =
-      record {
-        refusal = 0;
-        regions = (trailer file).count;
-        transfer = (trailer file).transfer;
-        segments = many S (regions file);
-        segment = segment S (regions file) i;
-      }
-
-  module _ {a : Tally} (e : a ≡ surveyed file S i) where
-    pub survey_refusal : a.refusal ≡ cut_refusal file S
-    survey_refusal =
-        rw e
-        (by_cases (λ (t : Tally). t.refusal ≡ cut_refusal file S) (eqb (cut_refusal file S) 0) (λ b. sym (eqb-true _ _ b)) (λ _. refl))
-
-    pub agrees : a.refusal ≡ 0 → Agrees file S i a
-    unfolding whole
-    agrees z =
-        let none = sym survey_refusal ∙ z in
-        let same : a ≡ whole = rw (eq-eqb _ _ none) at e in
-        rw same (record { none = none; started = refl; numbered = refl; reached = refl })

@@ -1,17 +1,18 @@
 -- The walk over the directory: what it answers, and how it keeps the place of the segment looked for.
-use Rattle.std.specs.Prelude.{ℕ, ◌+◌, ◌-◌, ◌≤◌, ◌<◌, cond as pick, List, length, leb, ltb}
+use Rattle.std.specs.Prelude.{ℕ, ◌+◌, ◌-◌, ◌≤◌, ◌<◌, cond as pick, List, Result, length, leb, ltb}
 use Rattle.directory.specs.declared.Trailer.{Trailer}
 use Rattle.directory.specs.declared.Region.{Region}
 use Rattle.directory.specs.Directory.{addresses, entry_at, entries, entries_refusal, ending, nowhere}
-use Rattle.image.specs.Image.{parts, cut, tallied}
+use Rattle.image.specs.Image.{parts, cut, many, segment}
+use Rattle.refusal.specs.declared.Refusal.{Refusal}
+use Rattle.refusal.specs.Refusal.{Answers}
 use Rattle.image.specs.declared.Reach.{Reach}
-use Rattle.image.specs.declared.Tally.{Tally}
 
 -- the entries that a trailer points at
-abbrev pub walked : List ℕ → Trailer → ℕ → ℕ → Tally
-walked file t S i =
+abbrev pub Walked : List ℕ → Trailer → ℕ → ℕ → Result (ℕ × Region) Refusal → Type 0
+Walked file t S i answer =
     let rs = entries file t.directory t.count in
-    tallied (entries_refusal t.directory 0 rs) t S i rs
+    Answers answer (entries_refusal t.directory 0 rs) (many S rs, segment S rs i)
 
 -- once a region is passed whose entry is at a place and whose first segment has the index m, i being looked for
 abbrev pub reaching : Reach → ℕ → ℕ → ℕ → Reach

@@ -2,20 +2,21 @@
 #![tactic(auto)]
 
 ghost use Rattle.std.specs.Prelude.{◌≡◌, ◌+◌, ◌*◌, ◌<◌, ◌≤◌, length};
-ghost use Rattle.directory.specs.Directory.{addresses, entry_at, ending, nowhere};
-ghost use Rattle.image.specs.Image.{parts, cut, no_tally, surveyed};
-ghost use Rattle.image.specs.Walk.{Reached, reaching, part_of, walked};
+ghost use Rattle.directory.specs.Directory.{addresses, entry_at, ending, nowhere, trailer, regions};
+ghost use Rattle.image.specs.Image.{parts, cut, cut_refusal, tally};
+ghost use Rattle.refusal.specs.Refusal.{Answers};
+ghost use Rattle.image.specs.Walk.{Reached, reaching, part_of, Walked};
 
 use directory::{Region, Trailer};
+use refusal::Refusal;
 
 // The most bytes of a segment.
 pub const WIDEST: u32 = 1490;
 
-// What a walk over the directory finds: a refusal; or 0 with what the trailer says, the number of segments, and the
-// segment looked for.
+// What a walk over the directory finds: what the trailer says, the number of segments, and the segment looked for. Where
+// there is none, `segment` of specs/Image.antt has a region of zeros, `nowhere`, and so has the tally.
 #[derive(Clone, Copy)]
 pub struct Tally {
-    pub refusal: u8,
     pub regions: u32,
     pub transfer: u32,
     pub segments: u64,
@@ -23,7 +24,7 @@ pub struct Tally {
 }
 
 // The last region passed that begins no later than the segment looked for: the place of its entry, and the index of its
-// first segment.
+// first segment. Over `chunks_exact(12)` the place would have to be counted beside the entries.
 #[derive(Clone, Copy)]
 struct Reach {
     at: usize,
@@ -44,7 +45,7 @@ fn read_entry(file: &[u8], at: usize) -> Region
     }
 }
 
-// The number of segments of a region.
+// The number of segments of a region. A type for a size of at least 1 would be made in `survey` alone, from C's number.
 fn parts(size: u32, r: Region) -> u32
     requires { (1 ≤ size) × (1 ≤ r.length) }
     ensures { result ≡ parts size r }
@@ -65,7 +66,7 @@ fn cut(size: u32, r: Region, j: u32) -> Region
     Region {
         address: r.address + skip,
         place: r.place + skip,
-        length: octets::lesser(size as u64, rest as u64) as u32,
+        length: size.min(rest),
     }
 }
 
@@ -101,62 +102,43 @@ fn part(file: &[u8], size: u32, reach: Reach, segments: u64, index: u64) -> Regi
     cut(size, r, (index - reach.first) as u32)
 }
 
-fn refused(n: u8) -> Tally
-    ensures { result ≡ no_tally n }
-{
-    Tally {
-        refusal: n,
-        regions: 0,
-        transfer: 0,
-        segments: 0,
-        segment: no_region(),
-    }
-}
-
-// The directory's entries in turn: refusals 7 and 8, the number of segments, the segment of an index.
-fn walk(file: &[u8], t: Trailer, size: u32, index: u64) -> Tally
+// The directory's entries in turn: `Refusal::Entry` and `Refusal::Overlap`, the number of segments, the segment of an index.
+// A function of its own: the loop within `survey` keeps fewer values in registers, and takes half as long again.
+#[inline(never)]
+fn walk(file: &[u8], t: Trailer, size: u32, index: u64) -> Result<(u64, Region), Refusal>
     requires { (t.directory + 12 * t.count ≤ length file.now) × (1 ≤ size) }
-    ensures { result ≡ walked file.now t size index }
+    ensures { Walked file.now t size index result }
 {
     let mut reach = Reach { at: 0, first: 0 };
     let mut segments: u64 = 0;
     let mut end: u64 = 0;
-    let mut at = t.directory as usize;
-    let stop = at + 12 * (t.count as usize);
-    while at < stop {
+    for k in 0..t.count {
+        let at = t.directory as usize + 12 * (k as usize);
         let r = read_entry(file, at);
-        let wrong = directory::entry_refusal(t.directory, end, r);
-        if wrong != 0 {
-            return refused(wrong);
-        }
+        directory::entry_refusal(t.directory, end, r)?;
         reach = reached(reach, at, segments, index);
         segments += parts(size, r) as u64;
         end = r.address as u64 + r.length as u64;
-        at += 12;
     }
-    Tally {
-        refusal: 0,
+    Ok((segments, part(file, size, reach, segments, index)))
+}
+
+// One walk: the refusal of a segment size or a file, or the number of segments and the segment of an index. All three are
+// C's arguments. Without the attribute, what it finds is copied once more.
+#[inline]
+pub fn survey(file: &[u8], size: u32, index: u64) -> Result<Tally, Refusal>
+    ensures { Answers result (cut_refusal file.now size) (tally (trailer file.now) size index (regions file.now)) }
+{
+    if !(1..=WIDEST).contains(&size) {
+        return Err(Refusal::Setting);
+    }
+    let t = directory::read_trailer(file);
+    directory::trailer_refusal(file.len(), t)?;
+    let (segments, segment) = walk(file, t, size, index)?;
+    Ok(Tally {
         regions: t.count,
         transfer: t.transfer,
         segments,
-        segment: part(file, size, reach, segments, index),
-    }
-}
-
-// One walk: the refusal of a segment size or a file, or 0 with the number of segments and the segment of an index.
-pub fn survey(file: &[u8], size: u32, index: u64) -> Tally
-    ensures { result ≡ surveyed file.now size index }
-{
-    if size < 1 {
-        return refused(10);
-    }
-    if WIDEST < size {
-        return refused(10);
-    }
-    let t = directory::read_trailer(file);
-    let wrong = directory::trailer_refusal(file.len(), t);
-    if wrong != 0 {
-        return refused(wrong);
-    }
-    walk(file, t, size, index)
+        segment,
+    })
 }

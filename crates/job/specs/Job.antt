@@ -1,5 +1,7 @@
 -- What a rehearsal's input asks for (PROTOCOL 8, 'Rehearsal'): its form is checked first, then its image.
-use Rattle.std.specs.Prelude.{ℕ, cond as pick, List, take, drop, eqb}
+use Rattle.std.specs.Prelude.{ℕ, Result, Ok, Err, List, take, drop}
+use Rattle.refusal.specs.declared.Refusal.{Refusal}
+use Rattle.refusal.specs.Refusal.{number}
 use Rattle.buffer.specs.Lay.{Output}
 use Rattle.hexadecimal.specs.Hexadecimal.{hexadecimal, decoded}
 use Rattle.segments.specs.Segments.{checked as image_checked}
@@ -27,26 +29,31 @@ image_in input t space = decoded (hexadecimal (take t.image_length (drop t.image
 abbrev pub bytes_of : Output → List ℕ
 bytes_of o = take o.answer.length o.buffer
 
--- What is read of an input, and the space that then holds the image.
+-- What is read of an input: refusal n, or 0 with a job; and the space that then holds the image.
 pub record Reading : Type 0 where
   pub job : Job
+  pub refusal : ℕ
   pub space : List ℕ
 
--- refusal n, or 0 with the lengths of the image in bytes and in segments
-abbrev pub job : Script → ℕ → ℕ → ℕ → Job
-job t file segments n = record { setup = setup t; script = t; file = file; segments = segments; refusal = n }
+-- the lengths of the image in bytes and in segments
+abbrev pub job : Script → ℕ → ℕ → Job
+job t file segments = record { setup = setup t; script = t; file = file; segments = segments }
 
 abbrev pub with_image : Script → Output → Reading
 with_image t o =
     record {
-      job =
-          job t o.answer.length (image_checked (bytes_of o) t.segment_size).segments
-          (image_checked (bytes_of o) t.segment_size).refusal;
+      job = job t o.answer.length (image_checked (bytes_of o) t.segment_size).segments;
+      refusal = (image_checked (bytes_of o) t.segment_size).refusal;
       space = o.buffer;
     }
 
+-- all numbers 0
+abbrev pub nothing : Script
+nothing = record { memory = 0; image_at = 0; image_length = 0; events_at = 0; events_length = 0; segment_size = 0; repeats = 0 }
+
+abbrev pub read_by : Result Script Refusal → List ℕ → List ℕ → Reading
+read_by (Ok t) input space = with_image t (image_in input t space)
+read_by (Err r) input space = record { job = job nothing 0 0; refusal = number r; space = space }
+
 abbrev pub reading : List ℕ → List ℕ → Reading
-reading input space =
-    pick (eqb (checked input).refusal 0)
-    (with_image (checked input) (image_in input (checked input) space))
-    (record { job = job (checked input) 0 0 (checked input).refusal; space = space })
+reading input space = read_by (checked input) input space

@@ -1,4 +1,3 @@
 pub mod Job
 pub mod Turn
 pub mod Run
-pub mod Laws

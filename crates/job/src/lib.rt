@@ -3,16 +3,18 @@
 #![tactic(auto)]
 
 ghost use Rattle.std.specs.Prelude.{◌≡◌};
-ghost use Rattle.buffer.specs.Lay.{Came};
+ghost use Rattle.buffer.specs.Lay.{Came, written_of};
+ghost use Rattle.refusal.specs.Refusal.{Answers};
 ghost use Rattle.text.specs.Text.{placed};
-ghost use Rattle.job.specs.Job.{setup, job, reading};
+ghost use Rattle.job.specs.Job.{setup, reading};
 ghost use Rattle.job.specs.Run.{host_sends, frame_line, fresh_ends, end_line};
 
-use buffer::Written;
 use load_record::Session;
-use machine_record::Machine;
+use machine_record::{Machine, State};
 use queue::Queue;
+use refusal::Refusal;
 use script::Script;
+use window::Window;
 
 // The settings of both ends.
 #[derive(Clone, Copy)]
@@ -21,15 +23,13 @@ pub struct Setup {
     pub machine: machine_record::Settings,
 }
 
-// What an input asks for: the settings, its numbers and letters, and the image's lengths in bytes and in segments; or a
-// refusal, by the number of PROTOCOL 7, 'Refusals'.
+// What an input asks for: the settings, its numbers and letters, and the image's lengths in bytes and in segments.
 #[derive(Clone, Copy)]
 pub struct Job {
     pub setup: Setup,
     pub script: Script,
     pub file: usize,
     pub segments: u64,
-    pub refusal: u8,
 }
 
 // Both ends, and the queues of what each has sent.
@@ -41,7 +41,8 @@ pub struct Ends {
     pub from_machine: Queue,
 }
 
-// What a step leaves: both ends, and the length of the frame in the reply buffer that was sent, 0 for none.
+// What a step leaves: both ends, and the length of the frame in the reply buffer that was sent, 0 for none, as the
+// definition `Step` has it: no bytes are no frame.
 #[derive(Clone, Copy)]
 pub struct Moved {
     pub ends: Ends,
@@ -66,37 +67,27 @@ fn prepare(script: Script) -> Setup
             device: 0,
             processor: 0,
             version: version::V3_0,
-            window: window::none(),
+            window: Window::none(),
         },
     }
 }
 
-fn asked(script: Script, file: usize, segments: u64, refusal: u8) -> Job
-    ensures { result ≡ job script file segments refusal }
+// What an input asks for: its form, then its image, whose bytes stand in the space afterwards. An image that does not fit
+// there is refused as one of no bytes.
+pub fn read(input: &[u8], space: &mut [u8]) -> Result<Job, Refusal>
+    ensures { (Answers result (reading input.now space.old).refusal (reading input.now space.old).job)
+        × (space.new ≡ (reading input.now space.old).space) }
 {
-    Job {
+    let script = script::check(input)?;
+    let digits = text::part(input, script.image_at, script.image_length);
+    let file = hexadecimal::decode(digits, space).unwrap_or(0);
+    let image = segments::check(text::part(space, 0, file), script.segment_size)?;
+    Ok(Job {
         setup: prepare(script),
         script,
         file,
-        segments,
-        refusal,
-    }
-}
-
-// What an input asks for: its form, then its image, whose bytes stand in the space afterwards.
-pub fn read(input: &[u8], space: &mut [u8]) -> Job
-    ensures { (result ≡ (reading input.now space.old).job)
-        × (space.new ≡ (reading input.now space.old).space) }
-{
-    let script = script::check(input);
-    if script.refusal != 0 {
-        return asked(script, 0, 0, script.refusal);
-    }
-    let digits = text::part(input, script.image_at, script.image_length);
-    let decoded = hexadecimal::decode(digits, space);
-    let file = text::part(space, 0, decoded.length);
-    let image = segments::check(file, script.segment_size);
-    asked(script, decoded.length, image.segments, image.refusal)
+        segments: image.segments,
+    })
 }
 
 // A waiting host and a Requesting machine; no frame is on its way.
@@ -105,42 +96,36 @@ pub fn fresh() -> Ends
 {
     Ends {
         session: load_record::start(),
-        machine: machine_record::in_state(2, 0, 0, 0, parameters::none()),
-        from_host: queue::empty(),
-        from_machine: queue::empty(),
+        machine: Machine::requesting(),
+        from_host: Queue::empty(),
+        from_machine: Queue::empty(),
     }
 }
 
-// Whether it is the host that may send at an event.
+// Whether it is the host that may send at an event. A letter is a byte, since any other byte is an event too, at which
+// nothing happens.
 pub fn host_sends(letter: u8) -> bool
     ensures { result ≡ host_sends letter }
 {
-    match letter {
-        b't' => true,
-        b'u' => true,
-        b'm' => true,
-        _ => false,
-    }
+    matches!(letter, b't' | b'u' | b'm')
 }
 
 // The line of a frame that was sent at an event; none for no bytes.
-pub fn line(letter: u8, frame: &[u8], out: &mut [u8]) -> Written
-    ensures { Came (placed (frame_line letter frame.now) out.old) result out.new }
+pub fn line(letter: u8, frame: &[u8], out: &mut [u8]) -> Result<usize, Refusal>
+    ensures { Came (placed (frame_line letter frame.now) out.old) (written_of result) out.new }
 {
     transcript::sent(host_sends(letter), frame, out)
 }
 
 // The last line.
-pub fn end(ends: Ends, memory: &[u8], line: &mut [u8]) -> Written
-    ensures { Came (placed (end_line ends memory.now) line.old) result line.new }
+pub fn end(ends: Ends, memory: &[u8], line: &mut [u8]) -> Result<usize, Refusal>
+    ensures { Came (placed (end_line ends memory.now) line.old) (written_of result) line.new }
 {
-    let session = ends.session;
-    let machine = ends.machine;
     transcript::last(
-        session.verdict,
-        session.sent,
-        machine.state == 4,
-        machine.transfer,
+        ends.session.verdict,
+        ends.session.sent,
+        ends.machine.is(State::Started),
+        ends.machine.transfer,
         memory,
         line,
     )

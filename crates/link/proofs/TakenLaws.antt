@@ -6,7 +6,7 @@ use mathlib.Core.List.{List, [], ◌∷◌, ◌++◌, map, append-nil}
 use Rattle.std.proofs.Math.Logic.{inl}
 use native.Mathlib.Omega.{arith}
 use Rattle.std.proofs.Math.ListN.{length, length-append}
-use Rattle.link.specs.Link.{Frame, Turn, refuses, acts, World, Ends, Own, Event, own, further, hand_to_machine, keep_to_machine, drop_to_machine, hand_to_host, keep_to_host, drop_to_host, host_timer, machine_timer, machine_turn, host_turn, with_to_machine, with_to_host, on_first, counts, step, run}
+use Rattle.link.specs.Link.{Frame, Turn, refuses, acts, World, Ends, Own, Event, own, further, hand_to_machine, keep_to_machine, drop_to_machine, hand_to_host, keep_to_host, drop_to_host, host_timer, machine_timer, machine_turn, host_turn, on_first, counts, step, run}
 use Rattle.link.specs.Taken.{Taken, from_host, from_machine, returned, on_queue, host_frames, machine_frames, Changed, Joined, takes, all_taken}
 
 -- ---- the frames of one end: of two lists, and of those that one end sent

@@ -1,9 +1,9 @@
 -- A buffer that fills with the bytes of memory from an address on.
 use Rattle.std.specs.Prelude.{ℕ, ◌+◌, ◌-◌, ◌<◌, ◌≤◌, ◌≡◌, List, ◌++◌, length, get_or, drop}
-use Rattle.std.proofs.Common.{ap, sym, subst, ◌∙◌, append_assoc, append-nil, arith, length-append, drop_of_length-le, take_at, drop-drop, get_or-append-add, get_or-drop}
+use Rattle.std.proofs.Common.{ap, sym, subst, ◌∙◌, append_assoc, append-nil, arith, length-append, drop_of_length-le, take_at, drop-drop, get_or-drop}
 use Rattle.std.proofs.Math.Option.{some}
 use Rattle.std.proofs.Math.ListN.{get_or-append, get_or-eq_default}
-use Rattle.std.proofs.Math.Seq.{drop-append-add}
+use Rattle.std.proofs.Math.Seq.{drop-append-add, get_or-append_right}
 use Rattle.buffer.specs.Lay.{over}
 use Rattle.memory.specs.Memory.{bytes_from}
 use Rattle.memory.specs.Laws.{length-bytes_from, get_or-bytes_from, bytes_from-joined}
@@ -13,12 +13,6 @@ use Rattle.link_dump.specs.Model.{Copied}
 -- a buffer whose first n bytes are memory from an address on, 0 beyond memory's end, and whose rest is as it was
 abbrev pub filled_with : List ℕ → ℕ → ℕ → List ℕ → List ℕ
 filled_with memory a n buffer = bytes_from memory a n ++ drop n buffer
-
--- byte k of two lists on end, where it is one of the second
-behind : (xs ys : List ℕ) (k : ℕ) → length xs ≤ k → get_or (xs ++ ys) k 0 ≡ get_or ys (k - length xs) 0
-behind xs ys k h =
-    let at : k ≡ length xs + (k - length xs) = omega arith in
-    ap (λ (i : ℕ). get_or (xs ++ ys) i 0) at ∙ get_or-append-add xs ys (k - length xs) 0
 
 -- the next bytes of memory laid over a buffer from the reached place on
 pub laid_next : (memory : List ℕ) (a m : ℕ) (bytes buffer : List ℕ) → bytes ≡ bytes_from memory (a + m) (length bytes)
@@ -43,7 +37,7 @@ module _ (memory : List ℕ) (a n : ℕ) (buffer : List ℕ) where
       let w : List ℕ = bytes_from memory a n in
       let size = length-bytes_from memory a n in
       let at : n + (k - length w) ≡ k = omega arith in
-      behind w (drop n buffer) k (omega arith) ∙ (get_or-drop n buffer (k - length w) 0 ∙ ap (λ (i : ℕ). get_or buffer i 0) at)
+      get_or-append_right w (drop n buffer) k 0 (omega arith) ∙ (get_or-drop n buffer (k - length w) 0 ∙ ap (λ (i : ℕ). get_or buffer i 0) at)
 
   pub copied : (k : ℕ) → k < n → Copied memory a (filled_with memory a n buffer) k
   copied k h =

@@ -30,7 +30,7 @@ use Rattle.image.specs.Image.{cut_refusal}
 use Rattle.step.specs.Step.{Leaves}
 use Rattle.message.specs.Laws.{listed-whole}
 use Rattle.parameters.specs.Parameters.{none, kept as kept_of}
-use Rattle.block.specs.declared.Change.TheVariants.{Stays}
+use Rattle.std.specs.Prelude.{None}
 use Rattle.block.specs.Block.{place}
 use Rattle.holds.specs.Holds.{Absent, Last, Holds}
 use Rattle.holds.specs.Laws.{holds}
@@ -166,7 +166,7 @@ module _
       (spelled s ms file string (before es) (reached es).machine (all_in_load es e) lays (held_under_2_1 same lays))
 
   pub block-leaves : ms.version ≡ s.version → lays_block s ms ≡ true → {kind from : ℕ} → Name kind from → Absent kind string ⊎ Last v21 kind [] string
-      → (x : ℕ) → 2 ≤ x → x < 6 → block_at s ms string (length old) (place (length old) + (from + x)) ≡ Stays
+      → (x : ℕ) → 2 ≤ x → x < 6 → block_at s ms string (length old) (place (length old) + (from + x)) ≡ None
   block-leaves same lays = left_alone s ms string old lays (held_under_2_1 same lays)
 
   -- A load that is reported finished has no region that touches the machine's ROM window: no address lies in both. A reset since does not matter.

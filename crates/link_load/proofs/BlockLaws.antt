@@ -1,5 +1,6 @@
 -- What the parameter block says, by the string's entries.
-use Rattle.std.specs.Prelude.{ℕ, zero, suc, ◌+◌, ◌-◌, ◌≤◌, ◌<◌, ◌≡◌, refl, true, List, [], ◌∷◌, ◌⊎◌, length, get_or}
+use Rattle.std.proofs.lemmas.List.{get_or_default}
+use Rattle.std.specs.Prelude.{ℕ, ◌+◌, ◌-◌, ◌≤◌, ◌<◌, ◌≡◌, true, List, [], ◌⊎◌, length, get_or, Option, Some, None}
 use Rattle.std.proofs.Common.{sym, ◌∙◌, ⊎_elim, get_or-take}
 use Rattle.std.proofs.Math.Option.{some}
 use native.Mathlib.Omega.{arith}
@@ -11,8 +12,6 @@ use Rattle.parameters.specs.declared.Value.{Value}
 use Rattle.parameters.specs.declared.Parameters.{Parameters}
 use Rattle.parameters.specs.Parameters.{kept}
 use Rattle.holds.specs.Holds.{Absent, Last, Is, Holds}
-use Rattle.block.specs.declared.Change.{Change}
-use Rattle.block.specs.declared.Change.TheVariants.{Stays, Becomes}
 use Rattle.block.specs.Block.{place, padded, name_cell, cell}
 use Rattle.machine_record.specs.declared.Settings.{Settings as MachineSettings}
 use Rattle.load_record.specs.declared.Settings.{Settings}
@@ -20,33 +19,27 @@ use Rattle.link.specs.MachineEnd.{End}
 use Rattle.link_load.specs.Report.{lays_block, block_at, Loaded, Name, target, host, Spelled}
 
 -- ---- a kept value, padded
--- a byte that is there is the same with any default
-any-default : (v : List ℕ) (x d f : ℕ) → x < length v → get_or v x d ≡ get_or v x f
-any-default [] x d f l = absurd (omega (arith, l))
-any-default (y ∷ v) zero d f l = refl
-any-default (y ∷ v) (suc x) d f l = any-default v x d f (omega (arith, l))
-
 padded-is : (fill : ℕ) (k : Value) (v : List ℕ) → Is k v → (x : ℕ) → padded fill k x ≡ get_or v x fill
 padded-is fill k v i x =
     elim (dec_lt x (length v)) [
       | yes l ↦ rw (i.size, lt-ltb x (length v) l)
-          (sym (get_or-take (length v) k.bytes x 0 l) ∙ (rw i.bytes_are) ∙ any-default v x 0 fill l)
+          (sym (get_or-take (length v) k.bytes x 0 l) ∙ (rw i.bytes_are) ∙ get_or_default v x 0 fill l)
       | no l ↦ rw (i.size, le-ltb x (length v) (omega arith)) (sym (get_or-eq_default v fill (omega arith)))
     ]
 
 -- a name's bytes, and the first two of one that is empty
-named : (k : Value) (v : List ℕ) → Is k v → 1 ≤ length v → (x : ℕ) → name_cell k x ≡ Becomes (get_or v x 32)
+named : (k : Value) (v : List ℕ) → Is k v → 1 ≤ length v → (x : ℕ) → name_cell k x ≡ Some (get_or v x 32)
 named k v i l x = rw (ne_eqb k.length 0 (λ e. omega (arith, i.size)), padded-is 32 k v i x)
 
-unnamed : (k : Value) → Is k [] → (x : ℕ) → x < 2 → name_cell k x ≡ Becomes 0
+unnamed : (k : Value) → Is k [] → (x : ℕ) → x < 2 → name_cell k x ≡ Some 0
 unnamed k i x l = rw (eq-eqb k.length 0 i.size, lt-ltb x 2 l)
 
-unnamed-stays : (k : Value) → Is k [] → (x : ℕ) → 2 ≤ x → name_cell k x ≡ Stays
+unnamed-stays : (k : Value) → Is k [] → (x : ℕ) → 2 ≤ x → name_cell k x ≡ None
 unnamed-stays k i x l = rw (eq-eqb k.length 0 i.size, le-ltb x 2 l)
 
 -- ---- the block of parameters that hold what a string says
 module _ (p : Parameters) (string : List ℕ) (h : Holds v21 p string) where
-  number-cell : (v : List ℕ) → Is p.target_address v → (x : ℕ) → x < 2 → cell p x ≡ Becomes (get_or v x 0)
+  number-cell : (v : List ℕ) → Is p.target_address v → (x : ℕ) → x < 2 → cell p x ≡ Some (get_or v x 0)
   unfolding cell
   number-cell v i x l = rw (lt-ltb x 2 l, padded-is 0 p.target_address v i x)
 
@@ -83,19 +76,19 @@ module _ (s : Settings) (ms : MachineSettings) (string old : List ℕ) (lays : l
   at = place (length old)
 
   -- the change at an address is that of the cell
-  at-cell : (x : ℕ) (b : Change) → cell p x ≡ b → block_at s ms string (length old) (at + x) ≡ b
+  at-cell : (x : ℕ) (b : Option ℕ) → cell p x ≡ b → block_at s ms string (length old) (at + x) ≡ b
   at-cell x b c = let back : at + x - at ≡ x = omega arith in rw (lays, le-leb at (at + x) (omega arith), back, c)
 
   pub left_alone : {kind from : ℕ} → Name kind from → Absent kind string ⊎ Last v21 kind [] string → (x : ℕ) → 2 ≤ x → x < 6
-      → block_at s ms string (length old) (at + (from + x)) ≡ Stays
-  left_alone {from = from} n q x l u = at-cell (from + x) Stays (name-cell p string h n x u ∙ unnamed-stays _ (empty_name p string h n q) x l)
+      → block_at s ms string (length old) (at + (from + x)) ≡ None
+  left_alone {from = from} n q x l u = at-cell (from + x) None (name-cell p string h n x u ∙ unnamed-stays _ (empty_name p string h n q) x l)
 
 module _
     (s : Settings) (ms : MachineSettings) (file string old : List ℕ) (e : End) (loaded : Loaded s ms file string old e) (lays : lays_block s ms ≡ true)
     (h : Holds v21 (kept string) string) where
   -- a byte that the block writes
-  is-there : (x b : ℕ) → cell (kept string) x ≡ Becomes b → get_elem? e.memory (place (length old) + x) ≡ some b
-  is-there x b c = loaded.block (place (length old) + x) b (at-cell s ms string old lays h x (Becomes b) c)
+  is-there : (x b : ℕ) → cell (kept string) x ≡ Some b → get_elem? e.memory (place (length old) + x) ≡ some b
+  is-there x b c = loaded.block (place (length old) + x) b (at-cell s ms string old lays h x (Some b) c)
 
   pub spelled : Spelled string (place (length old)) e.memory
   spelled =

@@ -1,4 +1,5 @@
 -- The numbered frames of a load, whatever they hold, and the machine as their receiver. An image's segments are one instance.
+use Rattle.std.proofs.Math.Bool.{or-true}
 use Prim.Native.Nat.{ℕ, zero, suc, ◌+◌, ◌%◌, ◌≤◌, ◌<◌}
 use Rattle.std.proofs.Math.Path.{◌≡◌, refl, sym}
 use Rattle.std.proofs.Common.{subst, ⊎_elim, arith}
@@ -103,10 +104,6 @@ module _ {ms : Settings} (fr : Frames ms) (old : List ℕ) where
     taken : (k : ℕ) → takes none k (laid k) ≡ acts (machine_at (suc k)) (laid (suc k)) (sends (said (suc k)))
     unfolding laid machine_at
     taken k = spread (fr.fit k) (fitted none k) (loading none (after (k % 256)) 1) (fr.lays k (laid k)) (laid k) (after (k % 256))
-
-    or-true : (a : Bool) → a || true ≡ true
-    or-true true = refl
-    or-true false = refl
 
     new : (k : ℕ) → k < fr.many → ((j : ℕ) → k ≡ suc j → fr.fit j ≡ true)
         → by_number (machine_at k) (k % 256) (takes (machine_at k).parameters k (laid k)) (laid k) ≡ acts (machine_at (suc k)) (laid (suc k)) (sends (said (suc k)))

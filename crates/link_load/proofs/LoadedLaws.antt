@@ -1,6 +1,7 @@
 -- All frames in is the program loaded, with the parameter block over it if the load lays one.
 use Prim.Native.Nat.{ℕ, zero, suc, ◌+◌, ◌-◌, ◌≤◌, ◌<◌}
-use Rattle.std.specs.Prelude.{◌≡◌, Bool, true, false, ◌&&◌, cond as pick, List, length, take, drop, get_or, leb}
+use Rattle.std.specs.Prelude.{◌≡◌, Bool, true, false, ◌&&◌, cond as pick, List, length, take, drop, get_or, leb, Option, Some, None}
+use Rattle.std.specs.Option.{unwrap_or}
 use Rattle.std.proofs.Math.Path.{refl}
 use Rattle.std.proofs.Common.{ap, sym, subst, ◌∙◌, arith, get_or-take, get_or-drop, eq-eqb, leb-true, leb-false}
 use Rattle.std.proofs.Math.Logic.{⊎_map}
@@ -12,9 +13,7 @@ use Rattle.version.specs.Version.{older}
 use Rattle.window.specs.Window.{Lies, InWindow}
 use Rattle.parameters.specs.declared.Parameters.{Parameters}
 use Rattle.parameters.specs.Parameters.{kept}
-use Rattle.block.specs.declared.Change.{Change}
-use Rattle.block.specs.declared.Change.TheVariants.{Stays, Becomes}
-use Rattle.block.specs.Block.{place, cell, over, block}
+use Rattle.block.specs.Block.{place, cell, block}
 use Rattle.block.specs.Laws.{length-block, get_or-block, cell-beyond}
 use Rattle.memory.specs.Memory.{fits, laid}
 use Rattle.memory.specs.Laws.{fits-inside, fits-clear, length-laid, laid-within, laid-before, laid-behind}
@@ -118,47 +117,47 @@ module _ (s : Settings) (ms : MachineSettings) (file string old : List ℕ) (ok 
         go false q = image-size
 
     -- each byte is the image's, but for what the block does to it
-    overlaid : (a : ℕ) → get_or e.memory a 0 ≡ over (block_at s ms string (length old) a) (get_or image a 0)
+    overlaid : (a : ℕ) → get_or e.memory a 0 ≡ unwrap_or (block_at s ms string (length old) a) (get_or image a 0)
     overlaid a = rw memory-is (go (lays_block s ms) refl)
       where
-        behind : (q : lays_block s ms ≡ true) → at ≤ a → get_or (laid (block p image) at image) a 0 ≡ over (cell p (a - at)) (get_or image a 0)
+        behind : (q : lays_block s ms ≡ true) → at ≤ a → get_or (laid (block p image) at image) a 0 ≡ unwrap_or (cell p (a - at)) (get_or image a 0)
         behind q l =
             elim (dec_lt (a - at) 14) [
               | yes m ↦ let here : at + (a - at) ≡ a = omega arith in
                   let same : place (length image) ≡ at = rw image-size in
-                  subst (λ (k : ℕ). get_or (laid (block p image) at image) k 0 ≡ over (cell p (a - at)) (get_or image k 0)) here
+                  subst (λ (k : ℕ). get_or (laid (block p image) at image) k 0 ≡ unwrap_or (cell p (a - at)) (get_or image k 0)) here
                   (laid-within (block p image) at image (block_inside q) (a - at) (omega (arith, length-block p image))
                   ∙ (rw same at (get_or-block p image (a - at) m)))
               | no m ↦ rw (cell-beyond p (a - at) (omega arith)) (laid-behind (block p image) at image (block_inside q) a (omega (arith, length-block p image)))
             ]
 
-        by_place : (b : Bool) → lays_block s ms ≡ true → leb at a ≡ b → get_or (laid (block p image) at image) a 0 ≡ over (pick b (cell p (a - at)) Stays) (get_or image a 0)
+        by_place : (b : Bool) → lays_block s ms ≡ true → leb at a ≡ b → get_or (laid (block p image) at image) a 0 ≡ unwrap_or (pick b (cell p (a - at)) None) (get_or image a 0)
         by_place true q l = behind q (leb-true at a l)
         by_place false q l = laid-before (block p image) at image (block_inside q) a (leb-false at a l)
 
         go : (b : Bool) → lays_block s ms ≡ b
-            → get_or (pick b (laid (block p image) at image) image) a 0 ≡ over (pick (b && leb at a) (cell p (a - at)) Stays) (get_or image a 0)
+            → get_or (pick b (laid (block p image) at image) image) a 0 ≡ unwrap_or (pick (b && leb at a) (cell p (a - at)) None) (get_or image a 0)
         go true q = by_place (leb at a) q refl
         go false q = refl
 
     -- a byte that the block writes lies in memory
-    written : (a b : ℕ) → block_at s ms string (length old) a ≡ Becomes b → a < length e.memory
+    written : (a b : ℕ) → block_at s ms string (length old) a ≡ Some b → a < length e.memory
     written a b q = go (lays_block s ms) refl q
       where
-        changes : (x : Change) → x ≡ Stays → x ≡ Becomes b → ⊥
+        changes : (x : Option ℕ) → x ≡ None → x ≡ Some b → ⊥
         changes x y z = let k : ◌≡◌ {A = ℕ} 0 1 = cc in omega arith
 
-        inside : (c : Bool) → lays_block s ms ≡ true → leb at a ≡ c → pick c (cell p (a - at)) Stays ≡ Becomes b → a < length e.memory
+        inside : (c : Bool) → lays_block s ms ≡ true → leb at a ≡ c → pick c (cell p (a - at)) None ≡ Some b → a < length e.memory
         inside true l m z =
             elim (dec_lt (a - at) 14) [
               | yes n ↦ omega (arith, leb-true at a m, fits-inside ms.window at 14 (length old) (block-fits l), size)
               | no n ↦ absurd (changes (cell p (a - at)) (cell-beyond p (a - at) (omega arith)) z)
             ]
-        inside false l m z = absurd (changes Stays refl z)
+        inside false l m z = absurd (changes None refl z)
 
-        go : (c : Bool) → lays_block s ms ≡ c → pick (c && leb at a) (cell p (a - at)) Stays ≡ Becomes b → a < length e.memory
+        go : (c : Bool) → lays_block s ms ≡ c → pick (c && leb at a) (cell p (a - at)) None ≡ Some b → a < length e.memory
         go true l z = inside (leb at a) l refl z
-        go false l z = absurd (changes Stays refl z)
+        go false l z = absurd (changes None refl z)
 
     -- region k of the directory
     module _ (k : ℕ) (l : k < length (regions file)) where
@@ -173,7 +172,7 @@ module _ (s : Settings) (ms : MachineSettings) (file string old : List ℕ) (ok 
           (omega (arith, before, (region-fit directory 0 (regions file) k entries l).within), omega (arith, size, fits-inside ms.window region.address region.length (length old) fit))
 
       -- each of its bytes in memory, where the block leaves it, and in the file
-      held : (x : ℕ) → x < region.length → block_at s ms string (length old) (region.address + x) ≡ Stays
+      held : (x : ℕ) → x < region.length → block_at s ms string (length old) (region.address + x) ≡ None
           → get_elem? e.memory (region.address + x) ≡ get_elem? file (region.place + x)
       held x b stays =
           let byte = inside-region file s.segment_size ms.window directory size-some before 0 (regions file) old k x entries all l b in
@@ -210,7 +209,7 @@ module _ (s : Settings) (ms : MachineSettings) (file string old : List ℕ) (ok 
           block = λ a b q. is-there 0 e.memory a (written a b q) ∙ ap some (overlaid a ∙ (rw q));
           program = λ k r q.
               let z = there (regions file) k r q in
-              subst (λ (x : Region). (y : ℕ) → y < x.length → block_at s ms string (length old) (x.address + y) ≡ Stays → get_elem? e.memory (x.address + y) ≡ get_elem? file (x.place + y)) z.1 (held k z.0);
+              subst (λ (x : Region). (y : ℕ) → y < x.length → block_at s ms string (length old) (x.address + y) ≡ None → get_elem? e.memory (x.address + y) ≡ get_elem? file (x.place + y)) z.1 (held k z.0);
           rest = λ a q g.
               same_byte e.memory old a size ((rw q at (overlaid a)) ∙ outside_regions file s.segment_size ms.window directory size-some before 0 (regions file) old a entries all
               (λ k l. ⊎_map (λ x. omega arith) (λ x. omega arith) (g k (get_or (regions file) k nowhere) (is-there nowhere (regions file) k l))));

@@ -4,8 +4,8 @@
 --     bounded-raised  the same on a line with bounded queues
 --     raised-any, bounded-raised-any    the same beside any machine, of this library or not
 --     listed_load     of the frames taken, those of the host are as many as the link counts
-use Rattle.std.specs.Prelude.{ℕ, ◌+◌, ◌≤◌, ◌≡◌, refl, List, ◌++◌, map, ◌⊎◌, length}
-use Rattle.std.proofs.Common.{ap, inl, inr, arith}
+use Rattle.std.specs.Prelude.{ℕ, ◌+◌, ◌≤◌, ◌≡◌, refl, List, ◌++◌, map, length}
+use Rattle.std.proofs.Common.{ap, arith}
 use Rattle.machine_record.specs.declared.Settings.{Settings as MachineSettings}
 use Rattle.load_record.specs.declared.Session.{Session}
 use Rattle.load_record.specs.declared.Settings.{Settings as LoadSettings}
@@ -16,7 +16,7 @@ use Rattle.link.specs.Taken.{Taken, from_machine, host_frames, all_taken, SameRu
 use Rattle.link.proofs.TakenLaws.{host-joined, machine-all, as_many}
 use Rattle.link.proofs.AgreeLaws.{Agree, same, same-within, stays-ended}
 use Rattle.link.specs.MachineEnd.{End, frame_turn, timer_turn}
-use Rattle.link_load.specs.Model.{host_beside, ResetIf, Reset, reset, on_reset, on_reset_takes, load_ends, fresh_world, after, all_frames, with_repeats, GivenUp, GaveUp}
+use Rattle.link_load.specs.Model.{host_beside, ResetIf, Reset, reset, on_reset, on_reset_takes, load_ends, fresh_world, after, all_frames, with_repeats, GaveUp}
 use Rattle.link_load.proofs.RepeatsLaws.{GoodIf, agree}
 
 -- Beside any machine, whatever its calls do, with any further events that leave the host's record alone, and from any world whose host is fresh;

@@ -1,4 +1,5 @@
 -- The host of a load as the sender of numbered frames, whatever they hold.
+use Rattle.std.proofs.Math.Bool.{or-true}
 use Rattle.std.specs.Prelude.{ℕ, zero, suc, ◌+◌, ◌-◌, ◌%◌, ◌≤◌, ◌<◌, ◌≡◌, refl, Bool, true, false, ◌||◌, cond as pick, List, ◌⊎◌, eqb}
 use Rattle.std.proofs.Common.{sym, ◌∙◌, inl, inr, ⊎_elim, arith, eqb-true, ltb-false}
 use Rattle.std.proofs.lemmas.Bool.{false≢true, eqb-false}
@@ -63,10 +64,6 @@ still-heard b h x e d =
       at_once = λ q. e ∙ d.at_once q;
       unended = d.unended;
     }
-
-or-true : (a : Bool) → a || true ≡ true
-or-true true = refl
-or-true false = refl
 
 heard-again : (b : Left Session End) (x : Session) → b.host.restarts < x.restarts → has_heard b x ≡ true
 heard-again b x l = go (restarted_since b x) refl

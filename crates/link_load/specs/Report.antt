@@ -1,12 +1,10 @@
 -- What is claimed of a reached world of a load: the host's report, and 'loaded' in the auditor's words (PROTOCOL 6, 'Link').
-use Rattle.std.specs.Prelude.{ℕ, ◌+◌, ◌-◌, ◌≤◌, ◌<◌, ◌≡◌, Bool, true, false, ◌&&◌, cond as pick, List, [], ◌⊎◌, length, get_or, leb}
+use Rattle.std.specs.Prelude.{ℕ, ◌+◌, ◌-◌, ◌≤◌, ◌<◌, ◌≡◌, Bool, true, false, ◌&&◌, cond as pick, List, [], ◌⊎◌, length, get_or, leb, Option, Some, None}
 use Rattle.std.proofs.Math.Option.{some}
 use Rattle.std.proofs.Math.ListN.{get_elem?}
 use Rattle.version.specs.Version.{v21, older}
 use Rattle.window.specs.Window.{Lies, InWindow}
 use Rattle.parameters.specs.Parameters.{kept}
-use Rattle.block.specs.declared.Change.{Change}
-use Rattle.block.specs.declared.Change.TheVariants.{Stays, Becomes}
 use Rattle.block.specs.Block.{place, cell}
 use Rattle.memory.specs.Memory.{fits, WindowKept}
 use Rattle.directory.specs.declared.Region.{Region}
@@ -72,8 +70,8 @@ abbrev pub lays_block : LoadSettings → MachineSettings → Bool
 lays_block s ms = given s && older ms.version
 
 -- what that does to the byte at an address, in a memory of this size
-abbrev pub block_at : LoadSettings → MachineSettings → List ℕ → ℕ → ℕ → Change
-block_at s ms string size a = pick (lays_block s ms && leb (place size) a) (cell (kept string) (a - place size)) Stays
+abbrev pub block_at : LoadSettings → MachineSettings → List ℕ → ℕ → ℕ → Option ℕ
+block_at s ms string size a = pick (lays_block s ms && leb (place size) a) (cell (kept string) (a - place size)) None
 
 -- The machine holds the catalogued program: every region lies within the file and ends within memory, and no address lies both in it and in the
 -- machine's ROM window, and so it is with the block, if the load lays one. A byte that the block writes is the block's; any other byte of a
@@ -85,10 +83,10 @@ pub record Loaded (s : LoadSettings) (ms : MachineSettings) (file string old : L
   pub clear : (k : ℕ) (r : Region) → Entry file k r → (a : ℕ) → InWindow ms.window a → Lies r.address r.length a → ⊥
   pub block_within : lays_block s ms ≡ true → place (length old) + 14 ≤ length e.memory
   pub block-clear : lays_block s ms ≡ true → (a : ℕ) → InWindow ms.window a → Lies (place (length old)) 14 a → ⊥
-  pub block : (a b : ℕ) → block_at s ms string (length old) a ≡ Becomes b → get_elem? e.memory a ≡ some b
-  pub program : (k : ℕ) (r : Region) → Entry file k r → (x : ℕ) → x < r.length → block_at s ms string (length old) (r.address + x) ≡ Stays
+  pub block : (a b : ℕ) → block_at s ms string (length old) a ≡ Some b → get_elem? e.memory a ≡ some b
+  pub program : (k : ℕ) (r : Region) → Entry file k r → (x : ℕ) → x < r.length → block_at s ms string (length old) (r.address + x) ≡ None
       → get_elem? e.memory (r.address + x) ≡ get_elem? file (r.place + x)
-  pub rest : (a : ℕ) → block_at s ms string (length old) a ≡ Stays
+  pub rest : (a : ℕ) → block_at s ms string (length old) a ≡ None
       → ((k : ℕ) (r : Region) → Entry file k r → (a < r.address) ⊎ (r.address + r.length ≤ a)) → get_elem? e.memory a ≡ get_elem? old a
   pub started : e.machine ≡ machine.started (leaves s string) (trailer file).transfer
 

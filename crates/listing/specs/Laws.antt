@@ -1,10 +1,13 @@
 -- Printing an input character by character prints its listing; and no line of a frame is too long for the space it is made in.
-use Rattle.std.specs.Prelude.{ℕ, ◌+◌, ◌<◌, ◌≤◌, ◌≡◌, refl, true, List, [], ◌∷◌, ◌++◌, length, take, eqb, ltb}
+use Rattle.std.specs.Prelude.{ℕ, ◌<◌, ◌≤◌, ◌≡◌, refl, true, List, [], ◌∷◌, ◌++◌, length, take, eqb, ltb}
 use Rattle.std.proofs.Common.{sym, ap, ap₂, ◌∙◌, append-nil, arith, length-set, length-take, take_all, get_or-take}
 use Rattle.std.proofs.Math.Option.{Option, none, some}
 use borrow.Author.Tests.{ne_eqb, lt-ltb, le-ltb, ltb-true, ltb-false}
 use Rattle.text.specs.Find.{index_of}
 use Rattle.octets.specs.TestLaws.{by_cases}
+use Rattle.refusal.specs.declared.Refusal.{Refusal}
+use Rattle.refusal.specs.declared.Refusal.TheVariants.{Short, Long, Code, Field, File, Directory, Entry, Overlap, Buffer, Setting, Memory, Frames}
+use Rattle.refusal.specs.Refusal.{number}
 use Rattle.buffer.specs.declared.Written.{Written}
 use Rattle.buffer.specs.Lay.{Came}
 use Rattle.version.specs.Version.{v30}
@@ -13,11 +16,11 @@ use Rattle.message.specs.Read.{byte, refused_fields, Row, rows, find, frame, fie
 use Rattle.message.specs.Laws.{Each, by_find}
 use Rattle.text.specs.Text.{chars, placed}
 use Rattle.text.specs.Laws.{by_test}
-use Rattle.pattern.specs.Pattern.{filling, sentenced}
+use Rattle.pattern.specs.Pattern.{skip, filled, filling, sentenced}
 use Rattle.pattern.specs.MostLaws.{weigh, every, filling-most}
 use Rattle.hexadecimal.specs.declared.Line.{Line}
 use Rattle.hexadecimal.specs.Hexadecimal.{Decoded, not_hexadecimal, spelled, is_digit, pairs, hexadecimal}
-use Rattle.hexadecimal.specs.Line.{Held, stepped, run, opened, ended}
+use Rattle.hexadecimal.specs.Line.{waits, Held, stepped, run, opened, ended}
 use Rattle.hexadecimal.specs.RunLaws.{capped, run-decoded}
 use Rattle.listing.specs.Frame.{patterns, reason_row, numbers, text}
 use Rattle.listing.specs.Listing.{printed, onto, lines, each, listing, closed, fold}
@@ -49,6 +52,22 @@ module _ (s out : List ℕ) {f : Fields} (e : f ≡ fields v30 s) {r : Written} 
       → Came (placed (filling patterns f.code v s ++ chars "\n") out) r out' → Came (placed (printed (spelled s)) out) r out'
   unfolding text
   read-line h v n came = rw (← e, h, ← n) came
+
+-- the row of a refusal has no marks: no number and no byte is in its line
+pub reason_plain : (r : Refusal) (v : List ℕ) → filling patterns (reason_row (number r)) [] [] ≡ filling patterns (reason_row (number r)) v []
+unfolding filled skip index_of
+reason_plain Short v = refl
+reason_plain Long v = refl
+reason_plain Code v = refl
+reason_plain Field v = refl
+reason_plain File v = refl
+reason_plain Directory v = refl
+reason_plain Entry v = refl
+reason_plain Overlap v = refl
+reason_plain Buffer v = refl
+reason_plain Setting v = refl
+reason_plain Memory v = refl
+reason_plain Frames v = refl
 
 -- A frame above 1,500 bytes is refused by its first byte and its length: 1,501 bytes decide.
 beyond : Option Row → ℕ
@@ -123,13 +142,13 @@ unfolding run
 run_length [] h = refl
 run_length (c ∷ line) h =
     run_length line (stepped h c)
-    ∙ by_cases same (is_digit c) (λ d. by_cases same (ltb h.line.high 16) (λ w. simp length-set) (λ w. refl)) (λ d. refl)
+    ∙ by_cases same (is_digit c) (λ d. by_cases same (waits h.line.high) (λ w. simp length-set) (λ w. refl)) (λ d. refl)
   where
     same : List ℕ → Type 0
     same b = length b ≡ length h.buffer
 
 stepped-begun : (h : Held) (c : ℕ) → (stepped h c).line.begun ≡ true
-stepped-begun h c = by_cases begun (is_digit c) (λ d. by_cases begun (ltb h.line.high 16) (λ w. refl) (λ w. refl)) (λ d. refl)
+stepped-begun h c = by_cases begun (is_digit c) (λ d. by_cases begun (waits h.line.high) (λ w. refl) (λ w. refl)) (λ d. refl)
   where
     begun : Line → Type 0
     begun l = l.begun ≡ true

@@ -1,6 +1,6 @@
 -- What is printed: a line for each line of the input, and what a character of the input does.
 use Rattle.std.specs.Prelude.{ℕ, ◌≡◌, cond as pick, List, [], ◌∷◌, ◌++◌, eqb}
-use Rattle.buffer.specs.Lay.{Came}
+use Rattle.buffer.specs.Lay.{Came, written_of}
 use Rattle.version.specs.Version.{v30}
 use Rattle.message.specs.Read.{fields}
 use Rattle.text.specs.Text.{chars, placed}
@@ -41,7 +41,7 @@ fed h c = pick (eqb c 10) (record { held = opened h.buffer; prints = printed (en
 
 -- what came out is that turn, its text laid into the buffer
 abbrev pub Feeds : Turn → List ℕ → Fed → List ℕ → List ℕ → Type 0
-Feeds t out r buffer' out' = (r.line ≡ t.held.line) × (buffer' ≡ t.held.buffer) × Came (placed t.prints out) r.written out'
+Feeds t out r buffer' out' = (r.line ≡ t.held.line) × (buffer' ≡ t.held.buffer) × Came (placed t.prints out) (written_of r.written) out'
 
 -- what is printed at the end of the input
 abbrev pub closed : Held → List ℕ

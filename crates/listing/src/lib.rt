@@ -2,26 +2,28 @@
 #![tactic(auto)]
 
 ghost use Rattle.std.specs.Prelude.{◌≡◌, ◌++◌, ◌≤◌, length};
-ghost use Rattle.buffer.specs.Lay.{Came};
+ghost use Rattle.buffer.specs.Lay.{Came, written_of};
 ghost use Rattle.text.specs.Text.{chars, placed};
 ghost use Rattle.pattern.specs.Pattern.{filling};
+ghost use Rattle.refusal.specs.Refusal.{number};
 ghost use Rattle.hexadecimal.specs.Hexadecimal.{spelled};
 ghost use Rattle.hexadecimal.specs.Line.{held, ended};
 ghost use Rattle.listing.specs.Frame.{program_row, form_row, reason_row, numbers, patterns};
 ghost use Rattle.listing.specs.Listing.{printed, fed, closed, Feeds};
 
-use buffer::Written;
 use hexadecimal::Line;
 use message::Fields;
+use pattern::Source;
+use refusal::Refusal;
 
-// The row of the words behind a program type.
+// The row of the words behind a program type. Rows are numbers: `line` says why.
 fn program_row(program: u8) -> usize
     ensures { result ≡ program_row program }
 {
-    if program < 3 {
-        return 33 + program as usize;
+    match program {
+        0..=2 => 33 + usize::from(program),
+        _ => 32,
     }
-    32
 }
 
 // The row of the words behind a software form.
@@ -37,19 +39,16 @@ fn form_row(form: u8) -> usize
 }
 
 // The row of a refusal.
-fn reason_row(refusal: u8) -> usize
-    ensures { result ≡ reason_row refusal }
+fn reason_row(refusal: Refusal) -> usize
+    ensures { result ≡ reason_row (number refusal) }
 {
-    if refusal < 5 {
-        return 27 + refusal as usize;
+    match refusal {
+        Refusal::Short => 28,
+        Refusal::Long => 29,
+        Refusal::Code => 30,
+        Refusal::Field => 31,
+        _ => 27,
     }
-    27
-}
-
-fn wide(b: u8) -> usize
-    ensures { result ≡ b }
-{
-    b as usize
 }
 
 // The numbers of a frame, in the order of the letters that stand for them in the rows.
@@ -61,32 +60,32 @@ fn numbers(f: Fields) -> [usize; 19]
     [
         f.address as usize,
         words,
-        f.count as usize,
+        usize::from(f.count),
         f.data_at,
         f.data_length,
-        wide(f.format),
+        usize::from(f.format),
         remark,
-        wide(f.form),
+        usize::from(f.form),
         f.id_at,
         f.id_length,
-        wide(f.compatibility),
+        usize::from(f.compatibility),
         f.transfer as usize,
         f.memory_size as usize,
-        wide(f.number),
-        wide(f.processor),
-        wide(f.program),
-        wide(f.error),
-        f.receipt as usize,
-        wide(f.device),
+        usize::from(f.number),
+        usize::from(f.processor),
+        usize::from(f.program),
+        usize::from(f.error),
+        usize::from(f.receipt),
+        usize::from(f.device),
     ]
 }
 
-// A row filled, with its line feed: a row for each code, for each refusal, and for words behind a number.
-fn line(k: usize, v: &[usize], s: &[u8], out: &mut [u8]) -> Written
+// A row filled, with its line feed: a row for each code, for each refusal, and for words behind a number. Rows go by number,
+// since a frame's code is its row, and the marks of other rows name theirs by number. The function is as long as its table.
+fn line(k: usize, v: &[usize], s: &[u8], out: &mut [u8]) -> Result<usize, Refusal>
     requires { length s.now ≤ 1500 }
-    ensures { Came (placed (filling patterns k v.now s.now ++ chars "\n") out.old) result out.new }
+    ensures { Came (placed (filling patterns k v.now s.now ++ chars "\n") out.old) (written_of result) out.new }
 {
-    let none = [0u8; 0];
     let table =
         b"0 memory load with transfer: number #n, address @a, data %d, transfer address @l\n\
         1 dump complete\n\
@@ -127,25 +126,27 @@ fn line(k: usize, v: &[usize], s: &[u8], out: &mut [u8]) -> Written
         \x20(none)\n\
         \x20(maintenance system)\n\
         \x20(standard system)\n";
-    pattern::sentence(table, k, v, s, &none, b"\n", out)
+    let source = Source {
+        table,
+        bytes: s,
+        numbers: v,
+    };
+    source.sentence(k, b"", b"\n", out)
 }
 
 // The line of a frame, with its line feed.
-pub fn show(s: &[u8], out: &mut [u8]) -> Written
-    ensures { Came (placed (printed (spelled s.now)) out.old) result out.new }
+pub fn show(s: &[u8], out: &mut [u8]) -> Result<usize, Refusal>
+    ensures { Came (placed (printed (spelled s.now)) out.old) (written_of result) out.new }
 {
-    let f = reader::read(version::V3_0, s);
-    let v = numbers(f);
-    if f.refusal != 0 {
-        let none = [0u8; 0];
-        return line(reason_row(f.refusal), &v, &none, out);
+    match reader::read(version::V3_0, s) {
+        Ok(f) => line(usize::from(f.code), &numbers(f), s, out),
+        Err(refusal) => line(reason_row(refusal), &[], b"", out),
     }
-    line(f.code as usize, &v, s, out)
 }
 
-// The line that is printed if a line ends here.
-fn finish(at: Line, buffer: &[u8], out: &mut [u8]) -> Written
-    ensures { Came (placed (printed (ended (held at buffer.now))) out.old) result out.new }
+// The line that is printed if a line ends here, into a lent buffer: `text` says why.
+fn finish(at: Line, buffer: &[u8], out: &mut [u8]) -> Result<usize, Refusal>
+    ensures { Came (placed (printed (ended (held at buffer.now))) out.old) (written_of result) out.new }
 {
     if hexadecimal::is_foul(at) {
         return text::place(b"not hexadecimal\n", out);
@@ -157,7 +158,7 @@ fn finish(at: Line, buffer: &[u8], out: &mut [u8]) -> Written
 #[derive(Clone, Copy)]
 pub struct Fed {
     pub line: Line,
-    pub written: Written,
+    pub written: Result<usize, Refusal>,
 }
 
 // One more character of the input: a line feed prints the line's.
@@ -173,22 +174,16 @@ pub fn feed(at: Line, c: u8, buffer: &mut [u8], out: &mut [u8]) -> Fed
     }
     Fed {
         line: hexadecimal::step(at, c, buffer),
-        written: Written {
-            length: 0,
-            refusal: 0,
-        },
+        written: Ok(0),
     }
 }
 
 // The end of the input: a last line without a line feed is printed if it has a character.
-pub fn close(at: Line, buffer: &[u8], out: &mut [u8]) -> Written
-    ensures { Came (placed (closed (held at buffer.now)) out.old) result out.new }
+pub fn close(at: Line, buffer: &[u8], out: &mut [u8]) -> Result<usize, Refusal>
+    ensures { Came (placed (closed (held at buffer.now)) out.old) (written_of result) out.new }
 {
     if at.begun {
         return finish(at, buffer, out);
     }
-    Written {
-        length: 0,
-        refusal: 0,
-    }
+    Ok(0)
 }

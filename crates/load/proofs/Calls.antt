@@ -1,6 +1,6 @@
 -- The ways through an accepted call, for both steps.
 use Prim.Native.Nat.{ℕ, ◌+◌, ◌*◌, ◌≤◌, ◌<◌}
-use mathlib.Core.Path.{◌≡◌, refl, sym, ap, subst, ◌∙◌}
+use mathlib.Core.Path.{◌≡◌, refl, ap, subst}
 use mathlib.Core.Bool.{Bool, true, false, cond as pick}
 use mathlib.Core.List.{List}
 use native.Mathlib.Omega.{arith}
@@ -20,9 +20,9 @@ use Rattle.load_record.specs.declared.Next.{Next}
 use Rattle.load_record.specs.Record.{most_restarts}
 use Rattle.load_record.specs.Laws.{Bound}
 use Rattle.load_checks.specs.declared.Ruling.{Ruling}
-use Rattle.load_checks.specs.Checks.{frames, ruling}
+use Rattle.load_checks.specs.Checks.{frames, refusal, accepts}
 use Rattle.load.specs.Load.{numbered, frame_message, counted, does}
-use Rattle.load_checks.specs.Laws.{Accepted, accepted, restarts-most, most-sent, Ruled, ruled}
+use Rattle.load_checks.specs.Laws.{Accepted, accepted, restarts-most, most-sent}
 use Rattle.load.specs.Inner.{piece, acting, Sendable}
 
 same-sending : (b : Bool) (m n : Message) → (b ≡ true → m ≡ n) → ◌≡◌ {A = Sending} (pick b (sends m) nothing) (pick b (sends n) nothing)
@@ -40,17 +40,17 @@ found s file i false l w n =
     let none = segment-none s.segment_size (regions file) i (ltb-false _ _ l) in
     (rw none (omega arith), rw none (omega arith))
 
-module _ (s : Settings) (h : Session) (file string reply : List ℕ) (i : ℕ) {k : Ruling} (e : k ≡ ruling s h file string reply i) where
-  pub says : Ruled s h file string reply i k
-  says = ruled s h file string reply i e
+module _ (s : Settings) (h : Session) (file string reply : List ℕ) (i : ℕ) {k : Ruling} (e : k ≡ accepts s file i) where
+  numbered_as : k.many ≡ frames s file
+  numbered_as = ap (λ (r : Ruling). r.many) e
 
-  module _ (z : k.refusal ≡ 0) where
+  module _ (z : refusal s h file string reply ≡ 0) where
     pub facts : Accepted s h file string reply
-    facts = accepted s h file string reply (sym says.refused ∙ z)
+    facts = accepted s h file string reply z
 
     -- while the record runs, a frame is on its way or yet to come
     pub goes : h.verdict ≡ 0 → h.position < k.many
-    goes v = rw (says.counted z) (facts.fits.goes v)
+    goes v = rw numbered_as (facts.fits.goes v)
 
     -- frame i, if there is one, can be sent
     sendable : i < k.many → Sendable s file string i k reply
@@ -58,9 +58,9 @@ module _ (s : Settings) (h : Session) (file string reply : List ℕ) (i : ℕ) {
         let a = facts in
         let held = found s file i (ltb i (many s.segment_size (regions file))) refl a.whole a.range.narrow in
         record {
-          within = rw (says.reached z) held.0;
-          short = rw (says.reached z) held.1;
-          few = omega (arith, says.counted z, a.few);
+          within = rw (ap (λ (r : Ruling). r.segment) e) held.0;
+          short = rw (ap (λ (r : Ruling). r.segment) e) held.1;
+          few = omega (arith, numbered_as, a.few);
           room = a.room;
           parameters = a.parameters;
         }
@@ -78,7 +78,7 @@ module _ (s : Settings) (h : Session) (file string reply : List ℕ) (i : ℕ) {
       -- the segment found beforehand is the one that goes out
       same-message : next.sends ≡ true
           → numbered s string k.many k.transfer next.session.position (piece file k.segment) ≡ frame_message s file string next.session.position
-      same-message e = rw (b.place e, says.counted z, says.started z, says.reached z)
+      same-message g = rw (b.place g, e)
 
       same : acting s file string k next ≡ does s file string next
       same = ap (acts (counted next) tt) (same-sending next.sends _ _ same-message)

@@ -1,6 +1,6 @@
 -- Laws of the load's calls: every frame is sent whole.
 use Rattle.std.specs.Prelude.{ℕ, ◌+◌, ◌%◌, ◌≤◌, ◌≡◌, refl, true, cond as pick, List, length, eqb}
-use Rattle.std.proofs.Common.{◌∙◌, arith, length-append}
+use Rattle.std.proofs.Common.{arith, length-append}
 use Rattle.octets.specs.TestLaws.{by_cases}
 use Rattle.octets.specs.NumberLaws.{length-low}
 use Rattle.message.specs.Message.{Message, memory_load_transfer, memory_load, parameters}

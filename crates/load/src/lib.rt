@@ -1,8 +1,9 @@
-// The calls of the host's end of a load (PROTOCOL 5, 'Host end').
+// The calls of the host's end of a load (PROTOCOL 5, 'Host end'). Settings, file, parameters and buffer come one by one, as
+// C gives them.
 #![tactic(auto)]
 
-ghost use Rattle.std.specs.Prelude.{◌≡◌, true, ◌+◌, ◌*◌, ◌≤◌};
-ghost use Rattle.buffer.specs.Lay.{Came, refused};
+ghost use Rattle.std.specs.Prelude.{◌≡◌, true, ◌+◌, ◌*◌, ◌≤◌, IfOk};
+ghost use Rattle.buffer.specs.Lay.{Came, written_of};
 ghost use Rattle.message.specs.Write.{sent};
 ghost use Rattle.directory.specs.Directory.{addresses};
 ghost use Rattle.step.specs.Step.{gives, Leaves};
@@ -15,8 +16,9 @@ use buffer::Written;
 use load_checks::{Ruling, rule};
 use load_record::{Next, Session, Settings};
 use message::Fields;
+use refusal::Refusal;
 
-// What a step gives: the next record, and the length of the frame to send, 0 for none, or a refusal.
+// What C is given by a step: the next record, and the length of the frame to send, 0 for none, or a refusal.
 #[repr(C)]
 #[derive(Clone, Copy)]
 pub struct Stepped {
@@ -31,17 +33,19 @@ pub fn start() -> Session
     load_record::start()
 }
 
-// The frame that might go out on a frame; no load has more than one frame more than there are addresses.
-fn ahead(session: Session, f: Fields) -> u64
-    ensures { session.position ≤ addresses + 1 → result ≡ ahead session f }
+// The frame that might go out on a frame; no load has more than one frame more than there are addresses. The code of a
+// frame is a number for C.
+fn ahead(session: Session, f: Result<Fields, Refusal>) -> u64
+    ensures { IfOk f (λ g. session.position ≤ addresses + 1 → result ≡ ahead session g) }
 {
-    if f.code == 8 {
+    if matches!(f, Ok(f) if f.code == 8) {
         return 0;
     }
-    octets::lesser(session.position, directory::ADDRESSES + 1) + 1
+    session.position.min(directory::ADDRESSES + 1) + 1
 }
 
-// Writes frame `index` of the load: a segment as code 2; the last frame is the parameters as code 20, or a segment as code 0.
+// Writes frame `index` of the load: a segment as code 2; the last is the parameters as code 20, or a segment as code 0. The
+// writers take any buffer: one known to have 1,500 bytes would be made by `rule` and opened again for them.
 fn send(
     settings: Settings,
     file: &[u8],
@@ -49,9 +53,9 @@ fn send(
     index: u64,
     k: Ruling,
     reply: &mut [u8],
-) -> Written
+) -> Result<usize, Refusal>
     requires { Sendable settings file.now parameters.now index k reply.old }
-    ensures { Came (sent (numbered settings parameters.now k.many k.transfer index (piece file.now k.segment)) reply.old) result reply.new }
+    ensures { Came (sent (numbered settings parameters.now k.many k.transfer index (piece file.now k.segment)) reply.old) (written_of result) reply.new }
 {
     let number = (index % 256) as u8;
     let at = k.segment.place as usize;
@@ -66,97 +70,60 @@ fn send(
     writer::memory_load_transfer(number, k.segment.address, bytes, k.transfer, reply)
 }
 
-// Answers with what the host does next, and with its frame if it sends one.
+// Does what the host does next, and lays its frame if it sends one; of none C is given the length 0.
 fn give(
     settings: Settings,
     file: &[u8],
     parameters: &[u8],
     k: Ruling,
     next: Next,
+    session: &mut Session,
     reply: &mut [u8],
-) -> Stepped
+) -> Result<usize, Refusal>
     requires { (next.session.sent ≤ 65536 * (256 * (addresses + 1)))
         × (next.sends ≡ true → Sendable settings file.now parameters.now next.session.position k reply.old) }
-    ensures { Leaves (gives (acting settings file.now parameters.now k next) reply.old) result.session result.answer tt reply.new }
+    ensures { Leaves (gives (acting settings file.now parameters.now k next) reply.old) session.new (written_of result) tt reply.new }
 {
-    let mut session = next.session;
+    *session = next.session;
     if next.sends {
-        session.sent = session.sent + 1;
-        return Stepped {
-            session,
-            answer: send(settings, file, parameters, session.position, k, reply),
-        };
+        session.sent += 1;
+        return send(settings, file, parameters, session.position, k, reply);
     }
-    Stepped {
-        session,
-        answer: Written {
-            length: 0,
-            refusal: 0,
-        },
-    }
+    Ok(0)
 }
 
-// A refusal changes nothing.
-fn refused(refusal: u8, session: Session) -> Stepped
-    ensures { (result.session ≡ session) × (result.answer ≡ refused refusal) }
-{
-    Stepped {
-        session,
-        answer: Written { length: 0, refusal },
-    }
-}
-
-// A step on a frame.
+// A step on a frame: the length of the frame to send, 0 for none.
 pub fn frame(
     settings: Settings,
-    session: Session,
+    session: &mut Session,
     file: &[u8],
     parameters: &[u8],
     frame: &[u8],
     reply: &mut [u8],
-) -> Stepped
-    ensures { Leaves (load_frame settings session file.now parameters.now frame.now reply.old) result.session result.answer tt reply.new }
+) -> Result<usize, Refusal>
+    ensures { Leaves (load_frame settings session.old file.now parameters.now frame.now reply.old) session.new (written_of result) tt reply.new }
 {
     let f = reader::read(settings.version, frame);
-    let k = rule(
-        settings,
-        session,
-        file,
-        parameters,
-        reply,
-        ahead(session, f),
-    );
-    if k.refusal != 0 {
-        return refused(k.refusal, session);
-    }
-    if f.refusal != 0 {
-        return refused(f.refusal, session);
-    }
-    let next = load_next::react(k.many, settings.restart, session, f);
-    give(
-        settings,
-        file,
-        parameters,
-        k,
-        load_record::tallied(session, next),
-        reply,
-    )
+    let index = ahead(*session, f);
+    let k = rule(settings, *session, file, parameters, reply, index)?;
+    let f = f?;
+    let next = load_next::react(k.many, settings.restart, *session, f);
+    let next = session.tallied(next);
+    give(settings, file, parameters, k, next, session, reply)
 }
 
 // A step on a timer.
 pub fn timer(
     settings: Settings,
-    session: Session,
+    session: &mut Session,
     file: &[u8],
     parameters: &[u8],
     reply: &mut [u8],
-) -> Stepped
-    ensures { Leaves (load_timer settings session file.now parameters.now reply.old) result.session result.answer tt reply.new }
+) -> Result<usize, Refusal>
+    ensures { Leaves (load_timer settings session.old file.now parameters.now reply.old) session.new (written_of result) tt reply.new }
 {
-    let k = rule(settings, session, file, parameters, reply, session.position);
-    if k.refusal != 0 {
-        return refused(k.refusal, session);
-    }
-    let next = load_timer::on_timer(k.many, settings.repeats, session);
-    give(settings, file, parameters, k, next, reply)
+    let index = session.position;
+    let k = rule(settings, *session, file, parameters, reply, index)?;
+    let next = load_timer::on_timer(k.many, settings.repeats, *session);
+    give(settings, file, parameters, k, next, session, reply)
 }

@@ -1,6 +1,6 @@
 -- What a call of the host's end of a load refuses, but for its frame (PROTOCOL 5, 'Host end', and 7, 'Refusals').
 use Rattle.std.specs.Prelude.{ℕ, ◌+◌, ◌*◌, Bool, true, not, ◌&&◌, cond as pick, List, [], ◌∷◌, length, eqb, leb}
-use Rattle.directory.specs.Directory.{trailer, regions, nowhere, refusal as image_refusal}
+use Rattle.directory.specs.Directory.{trailer, regions, refusal as image_refusal}
 use Rattle.image.specs.Image.{many, segment}
 use Rattle.message.specs.Write.{entry_list}
 use Rattle.step.specs.Step.{unless, first}
@@ -56,20 +56,11 @@ refusal s h file string reply =
     ∷ string_refusal s string
     ∷ [])
 
--- a refusal, and no other number
-abbrev pub denied : ℕ → Ruling
-denied n = record { refusal = n; many = 0; transfer = 0; segment = nowhere }
-
 -- n, the image's transfer address and segment i, nowhere if there is none
 abbrev pub accepts : Settings → List ℕ → ℕ → Ruling
 accepts s file i =
     record {
-      refusal = 0;
       many = frames s file;
       transfer = (trailer file).transfer;
       segment = segment s.segment_size (regions file) i;
     }
-
-abbrev pub ruling : Settings → Session → List ℕ → List ℕ → List ℕ → ℕ → Ruling
-ruling s h file string reply i =
-    pick (eqb (refusal s h file string reply) 0) (accepts s file i) (denied (refusal s h file string reply))

@@ -1,11 +1,11 @@
 -- Laws of what a call of a load refuses: what an accepted one says.
 use Rattle.std.specs.Prelude.{ℕ, ◌+◌, ◌*◌, ◌≤◌, ◌<◌, ◌≡◌, refl, Bool, true, false, not, ◌&&◌, cond as pick, List, [], ◌∷◌, length, eqb, leb}
-use Rattle.std.proofs.Common.{sym, ◌∙◌, arith, mul-le-mul, length-append, leb-true, leb-false, le-ltb, lt-ltb, eqb-true, le-leb}
+use Rattle.std.proofs.Common.{sym, ◌∙◌, arith, mul-le-mul, length-append, leb-true, leb-false, le-ltb, lt-ltb, le-leb}
 use Rattle.std.proofs.lemmas.Bool.{eqb-false, not-true}
 use Rattle.octets.specs.NumberLaws.{length-low}
 use Rattle.octets.specs.TestLaws.{by_cases, both}
-use Rattle.directory.specs.Directory.{addresses, trailer, regions, demand, refusal as image_refusal}
-use Rattle.image.specs.Image.{many, segment, widest, cut_refusal}
+use Rattle.directory.specs.Directory.{addresses, regions, demand, refusal as image_refusal}
+use Rattle.image.specs.Image.{many, widest, cut_refusal}
 use Rattle.image.specs.Laws.{many-range}
 use Rattle.buffer.specs.Lay.{laid, refuse}
 use Rattle.message.specs.Message.{parameters}
@@ -17,8 +17,7 @@ use Rattle.step.specs.Laws.{met, none}
 use Rattle.load_record.specs.declared.Settings.{Settings}
 use Rattle.load_record.specs.declared.Session.{Session}
 use Rattle.load_record.specs.Record.{most_restarts}
-use Rattle.load_checks.specs.declared.Ruling.{Ruling}
-use Rattle.load_checks.specs.Checks.{given, frames_of, frames, few, most_sent, consistent, longest, string_refusal, refusal, denied, accepts, ruling}
+use Rattle.load_checks.specs.Checks.{given, frames_of, frames, few, most_sent, consistent, longest, string_refusal, refusal}
 use Rattle.load_valid.specs.Valid.{restarting, settled, blank, restarts_allowed, sound}
 
 -- the settings are in range
@@ -174,20 +173,3 @@ accepted s h file string reply e =
       fits = fitting (frames s file) s h (met _ 10 (omega arith) count.0);
       parameters = string-whole s string last.0;
     }
-
--- What a ruling says: a call's refusal; if it is 0, n, the image's transfer address and segment i.
-pub record Ruled (s : Settings) (h : Session) (file string reply : List ℕ) (i : ℕ) (k : Ruling) : Type 0 where
-  pub refused : k.refusal ≡ refusal s h file string reply
-  pub counted : k.refusal ≡ 0 → k.many ≡ frames s file
-  pub started : k.refusal ≡ 0 → k.transfer ≡ (trailer file).transfer
-  pub reached : k.refusal ≡ 0 → k.segment ≡ segment s.segment_size (regions file) i
-
-pub ruled : (s : Settings) (h : Session) (file string reply : List ℕ) (i : ℕ) {k : Ruling} → k ≡ ruling s h file string reply i → Ruled s h file string reply i k
-ruled s h file string reply i e = rw e (go (eqb (refusal s h file string reply) 0) refl)
-  where
-    go : (b : Bool) → eqb (refusal s h file string reply) 0 ≡ b → Ruled s h file string reply i (pick b (accepts s file i) (denied (refusal s h file string reply)))
-    go true z =
-        record { refused = sym (eqb-true _ _ z); counted = λ _. refl; started = λ _. refl; reached = λ _. refl }
-    go false z =
-        let ne = eqb-false _ _ z in
-        record { refused = refl; counted = λ n. absurd (ne n); started = λ n. absurd (ne n); reached = λ n. absurd (ne n) }

@@ -3,22 +3,24 @@
 
 ghost use Rattle.std.specs.Prelude.{◌≡◌, ◌+◌, ◌≤◌};
 ghost use Rattle.directory.specs.Directory.{addresses};
-ghost use Rattle.load_checks.specs.Checks.{frames_of, few, consistent, string_refusal, denied, ruling};
+ghost use Rattle.load_checks.specs.Checks.{frames_of, few, consistent, string_refusal, refusal, accepts};
+ghost use Rattle.refusal.specs.Refusal.{number_of, Answers};
 
 use directory::Region;
 use load_record::{Session, Settings};
+use refusal::Refusal;
+use verdict::Verdict;
 
-// Whether a call is accepted, but for its frame: a refusal; or 0 with n, the number of frames, the image's transfer address,
-// and the segment that might go out.
+// What an accepted call needs: n, the number of frames, the image's transfer address, and the segment that might go out.
 #[derive(Clone, Copy)]
 pub struct Ruling {
-    pub refusal: u8,
     pub many: u64,
     pub transfer: u32,
     pub segment: Region,
 }
 
-// The number of frames: one for each segment, and one more for a parameter string.
+// The number of frames: one for each segment, and one more for a parameter string. The marks of C's settings are numbers
+// here and below.
 fn frames(settings: Settings, segments: u64) -> u64
     requires { segments ≤ addresses }
     ensures { result ≡ frames_of settings segments }
@@ -33,10 +35,7 @@ fn frames(settings: Settings, segments: u64) -> u64
 fn few(settings: Settings, many: u64) -> bool
     ensures { result ≡ few settings many }
 {
-    if settings.restart == 1 {
-        return many <= 256;
-    }
-    true
+    settings.restart != 1 || many <= 256
 }
 
 // Whether a record is sound with so many frames.
@@ -44,50 +43,28 @@ fn consistent(many: u64, settings: Settings, session: Session) -> bool
     requires { (many ≤ addresses + 1) × (settings.repeats ≤ 255) × (session.restarts ≤ 65535) }
     ensures { result ≡ consistent many settings session }
 {
-    let round = many * (settings.repeats as u64 + 1);
-    let limit = (session.restarts as u64 + 1) * round;
-    if many < session.position {
-        return false;
-    }
-    if limit < session.sent {
-        return false;
-    }
-    if session.verdict == 1 {
-        return session.position == many;
-    }
-    session.position != many
+    let round = many * (u64::from(settings.repeats) + 1);
+    let limit = (u64::from(session.restarts) + 1) * round;
+    session.position <= many
+        && session.sent <= limit
+        && (session.verdict == Verdict::Finished.into()) == (session.position == many)
 }
 
-// The parameter string's refusal, 0 for none.
-fn string_refusal(settings: Settings, parameters: &[u8]) -> u8
-    ensures { result ≡ string_refusal settings parameters.now }
+// The parameter string's refusal.
+#[tactic(auto, unfolding(step::specs::Step::first))]
+fn string_refusal(settings: Settings, parameters: &[u8]) -> Result<(), Refusal>
+    ensures { number_of result ≡ string_refusal settings parameters.now }
 {
     if settings.with_parameters != 1 {
-        return 0;
+        return Ok(());
     }
     if !writer_listed::listed(settings.version, parameters) {
-        return 4;
+        return Err(Refusal::Field);
     }
     if 1493 < parameters.len() {
-        return 2;
+        return Err(Refusal::Long);
     }
-    0
-}
-
-// A refusal of the call.
-fn denied(refusal: u8) -> Ruling
-    ensures { result ≡ denied refusal }
-{
-    Ruling {
-        refusal,
-        many: 0,
-        transfer: 0,
-        segment: Region {
-            address: 0,
-            place: 0,
-            length: 0,
-        },
-    }
+    Ok(())
 }
 
 // Whether a call is accepted, but for its frame; `index` is the segment that might go out.
@@ -98,35 +75,27 @@ pub fn rule(
     parameters: &[u8],
     reply: &[u8],
     index: u64,
-) -> Ruling
-    ensures { result ≡ ruling settings session file.now parameters.now reply.now index }
+) -> Result<Ruling, Refusal>
+    ensures { Answers result (refusal settings session file.now parameters.now reply.now) (accepts settings file.now index) }
 {
     if !load_valid::valid(settings, session) {
-        return denied(10);
+        return Err(Refusal::Setting);
     }
     if reply.len() < 1500 {
-        return denied(9);
+        return Err(Refusal::Buffer);
     }
-    let a = image::survey(file, settings.segment_size, index);
-    if a.refusal != 0 {
-        return denied(a.refusal);
-    }
+    let a = image::survey(file, settings.segment_size, index)?;
     let many = frames(settings, a.segments);
     if !few(settings, many) {
-        return denied(12);
+        return Err(Refusal::Frames);
     }
     if !consistent(many, settings, session) {
-        return denied(10);
+        return Err(Refusal::Setting);
     }
-    let wrong = string_refusal(settings, parameters);
-    if wrong != 0 {
-        return denied(wrong);
-    }
-    let segment = a.segment;
-    Ruling {
-        refusal: 0,
+    string_refusal(settings, parameters)?;
+    Ok(Ruling {
         many,
         transfer: a.transfer,
-        segment,
-    }
+        segment: a.segment,
+    })
 }

@@ -2,14 +2,18 @@
 #![tactic(auto)]
 
 ghost use Rattle.std.specs.Prelude.{◌≡◌, ◌≤◌, ◌<◌, length};
-ghost use Rattle.buffer.specs.Lay.{written, refused};
-ghost use Rattle.step.specs.Step.{gives, Leaves};
-ghost use Rattle.looptest.specs.Loop.{begun, counted, refusal, goes_out, loop_start, loop_frame, loop_timer};
+ghost use Rattle.refusal.specs.Refusal.{number_of};
+ghost use Rattle.buffer.specs.Lay.{Came, written_of};
+ghost use Rattle.message.specs.Message.{loop_data};
+ghost use Rattle.message.specs.Write.{sent};
+ghost use Rattle.step.specs.Step.{Leaves};
+ghost use Rattle.looptest.specs.Loop.{begun, settled, sound, refusal, loop_start, loop_frame, loop_timer};
 
 use buffer::Written;
-use looptest_record::{Session, Settings};
+use looptest_record::{Session, Settings, Verdict};
+use refusal::Refusal;
 
-// What a step gives: the next record, and the length of the frame to send, 0 for none, or a refusal.
+// What C is given by a step: the next record, and the length of the frame to send, 0 for none, or a refusal.
 #[repr(C)]
 #[derive(Clone, Copy)]
 pub struct Stepped {
@@ -18,134 +22,95 @@ pub struct Stepped {
 }
 
 // The test has sent its frame once.
-fn begun() -> Session
+pub fn begun() -> Session
     ensures { result ≡ begun }
 {
     Session {
         sent: 1,
         repeats: 0,
-        verdict: 0,
+        verdict: Verdict::Open.into(),
     }
 }
 
-// Another frame is sent.
-fn counted(h: Session) -> Session
-    requires { h.sent < 4294967295 }
-    ensures { result ≡ counted h }
+// R and the data are within their ranges, and the version is known.
+fn settled(s: Settings, size: usize) -> bool
+    ensures { result ≡ settled s size }
 {
-    let mut next = h;
-    next.sent = h.sent + 1;
-    next
+    s.repeats <= 255 && size <= 1497 && version::known(s.version)
 }
 
-// A call's refusal: 10 for R, the data, the version or the record, then 9; 0 is none.
-fn refusal(s: Settings, h: Session, size: usize, room: usize) -> u8
-    ensures { result ≡ refusal s h size room }
+// The record is not bad.
+fn sound(s: Settings, h: Session) -> bool
+    ensures { result ≡ sound s h }
 {
-    if 255 < s.repeats {
-        return 10;
-    }
-    if 1497 < size {
-        return 10;
-    }
-    if !version::known(s.version) {
-        return 10;
-    }
-    if 3 < h.verdict {
-        return 10;
-    }
-    if s.repeats < h.repeats {
-        return 10;
-    }
-    let most = s.repeats as u64 + 1;
-    if most < h.sent {
-        return 10;
+    h.verdict <= Verdict::GivenUp.into()
+        && h.repeats <= s.repeats
+        && h.sent <= u64::from(s.repeats) + 1
+}
+
+// A call's refusal: `Refusal::Setting` for R, the data, the version or the record, then `Refusal::Buffer`. A trait for this
+// and the dump's would name both tests of each, and be longer than the two functions.
+#[tactic(auto, unfolding(step::specs::Step::first))]
+fn refusal(s: Settings, h: Session, size: usize, room: usize) -> Result<(), Refusal>
+    ensures { number_of result ≡ refusal s h size room }
+{
+    if !settled(s, size) || !sound(s, h) {
+        return Err(Refusal::Setting);
     }
     if room < 1500 {
-        return 9;
+        return Err(Refusal::Buffer);
     }
-    0
+    Ok(())
 }
 
-// A refusal is answered.
-fn refused(h: Session, refusal: u8) -> Stepped
-    ensures { (result.session ≡ h) × (result.answer ≡ refused refusal) }
-{
-    Stepped {
-        session: h,
-        answer: Written { length: 0, refusal },
-    }
-}
-
-// Nothing is sent.
-fn sends_nothing(h: Session) -> Stepped
-    ensures { (result.session ≡ h) × (result.answer ≡ written 0) }
-{
-    Stepped {
-        session: h,
-        answer: Written {
-            length: 0,
-            refusal: 0,
-        },
-    }
-}
-
-// The test's frame goes out.
-fn goes_out(s: Settings, h: Session, bytes: &[u8], reply: &mut [u8]) -> Stepped
+// The test's frame goes out. The writer takes any buffer: one known to have 1,500 bytes would be opened again for it.
+fn goes_out(s: Settings, bytes: &[u8], reply: &mut [u8]) -> Result<usize, Refusal>
     requires { (length bytes.now ≤ 1497) × (1500 ≤ length reply.old) }
-    ensures { Leaves (gives (goes_out s h bytes.now) reply.old) result.session result.answer tt reply.new }
+    ensures { Came (sent (loop_data s.receipt bytes.now) reply.old) (written_of result) reply.new }
 {
-    let answer = writer::loop_data(s.receipt, bytes, reply);
-    Stepped { session: h, answer }
+    writer::loop_data(s.receipt, bytes, reply)
 }
 
-// The start: the record and the first frame.
-pub fn start(settings: Settings, bytes: &[u8], reply: &mut [u8]) -> Stepped
-    ensures { Leaves (loop_start settings bytes.now reply.old) result.session result.answer tt reply.new }
+// The start: the first frame, for a test that has begun.
+pub fn start(settings: Settings, bytes: &[u8], reply: &mut [u8]) -> Result<usize, Refusal>
+    ensures { Leaves (loop_start settings bytes.now reply.old) begun (written_of result) tt reply.new }
 {
-    let begun = begun();
-    let refusal = refusal(settings, begun, bytes.len(), reply.len());
-    if refusal != 0 {
-        return refused(begun, refusal);
-    }
-    goes_out(settings, begun, bytes, reply)
+    refusal(settings, begun(), bytes.len(), reply.len())?;
+    goes_out(settings, bytes, reply)
 }
 
-// A step on a frame. The reply buffer stays as it is.
+// A step on a frame: nothing is sent, and the reply buffer stays as it is.
+#[tactic(auto, unfolding(step::specs::Step::first))]
 pub fn frame(
     settings: Settings,
-    session: Session,
+    session: &mut Session,
     bytes: &[u8],
     frame: &[u8],
     reply: &[u8],
-) -> Stepped
-    ensures { Leaves (loop_frame settings session bytes.now frame.now reply.now) result.session result.answer tt reply.now }
+) -> Result<usize, Refusal>
+    ensures { Leaves (loop_frame settings session.old bytes.now frame.now reply.now) session.new (written_of result) tt reply.now }
 {
-    let refusal = refusal(settings, session, bytes.len(), reply.len());
-    if refusal != 0 {
-        return refused(session, refusal);
-    }
-    let f = reader::read(settings.version, frame);
-    if f.refusal != 0 {
-        return refused(session, f.refusal);
-    }
-    let at = f.data_at;
-    let end = at + f.data_length;
-    sends_nothing(looptest_next::react(settings, session, bytes, f, &frame[at..end]))
+    refusal(settings, *session, bytes.len(), reply.len())?;
+    let heard = heard::hear(settings.version, frame)?;
+    *session = looptest_next::react(settings, *session, bytes, heard.f, heard.data());
+    Ok(0)
 }
 
-// A step on a timer.
-pub fn timer(settings: Settings, session: Session, bytes: &[u8], reply: &mut [u8]) -> Stepped
-    ensures { Leaves (loop_timer settings session bytes.now reply.old) result.session result.answer tt reply.new }
+// A step on a timer: the length of the frame to send, 0 for none.
+pub fn timer(
+    settings: Settings,
+    session: &mut Session,
+    bytes: &[u8],
+    reply: &mut [u8],
+) -> Result<usize, Refusal>
+    ensures { Leaves (loop_timer settings session.old bytes.now reply.old) session.new (written_of result) tt reply.new }
 {
-    let refusal = refusal(settings, session, bytes.len(), reply.len());
-    if refusal != 0 {
-        return refused(session, refusal);
+    refusal(settings, *session, bytes.len(), reply.len())?;
+    let next = looptest_timer::on_timer(settings, *session);
+    *session = next.session;
+    if next.sends {
+        session.sent += 1;
+        return goes_out(settings, bytes, reply);
     }
-    let next = looptest_timer::on_timer(settings, session);
-    let sends = next.sends;
-    if sends {
-        return goes_out(settings, counted(next.session), bytes, reply);
-    }
-    sends_nothing(next.session)
+    Ok(0)
 }

@@ -1,5 +1,6 @@
 -- What the host's loop test does next on a frame (PROTOCOL 5, 'Host end'). The settings and the data stay the same over a test.
-use Rattle.std.specs.Prelude.{ℕ, Bool, true, false, ◌&&◌, cond as pick, List, [], ◌∷◌, eqb}
+use Rattle.std.specs.Prelude.{ℕ, Bool, ◌&&◌, cond as pick, List, eqb}
+use Rattle.std.specs.Str.{bytes_eq}
 use Rattle.message.specs.declared.Fields.{Fields}
 use Rattle.looptest_record.specs.declared.Settings.{Settings}
 use Rattle.looptest_record.specs.declared.Session.{Session}
@@ -7,10 +8,7 @@ use Rattle.looptest_record.specs.Record.{ended}
 
 -- two strings are equal
 unfoldable pub same : List ℕ → List ℕ → Bool
-same [] [] = true
-same [] (y ∷ ys) = false
-same (x ∷ xs) [] = false
-same (x ∷ xs) (y ∷ ys) = eqb x y && same xs ys
+same xs ys = bytes_eq xs ys
 
 -- a frame with the test's receipt and data ends it with a verdict
 abbrev pub returned : Settings → Session → List ℕ → ℕ → ℕ → List ℕ → Session

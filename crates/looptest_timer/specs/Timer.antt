@@ -1,13 +1,9 @@
 -- What the host's loop test does next on a timer (PROTOCOL 5, 'Host end'): its record, and whether its frame goes out.
-use Rattle.std.specs.Prelude.{◌+◌, true, false, cond as pick, eqb, ltb}
+use Rattle.std.specs.Prelude.{true, false, cond as pick, eqb, ltb}
 use Rattle.looptest_record.specs.declared.Settings.{Settings}
 use Rattle.looptest_record.specs.declared.Session.{Session}
-use Rattle.looptest_record.specs.Record.{changed, ended}
+use Rattle.looptest_record.specs.Record.{ended, repeated}
 use Rattle.looptest_timer.specs.declared.Next.{Next}
-
--- one more repeat is used
-abbrev pub repeated : Session → Session
-repeated h = changed h (h.repeats + 1) h.verdict
 
 -- nothing goes out, or the test's frame does again
 abbrev pub waits : Session → Next

@@ -2,44 +2,39 @@
 #![tactic(auto)]
 
 ghost use Rattle.std.specs.Prelude.{◌≡◌, ◌<◌};
-ghost use Rattle.looptest_timer.specs.Timer.{repeated, waits, again, on_timer};
+ghost use Rattle.looptest_timer.specs.Timer.{waits, again, on_timer};
 
-use looptest_record::{Session, Settings};
+use looptest_record::{Session, Settings, Verdict};
+use retransmission::{Tick, ticked};
 
 // What it does on a timer: its record but for the count of frames, and whether its frame goes out.
+// A load's has the same two fields over another record: one generic type would put the record's name into each definition
+// that speaks of either.
 #[derive(Clone, Copy)]
 pub struct Next {
     pub session: Session,
     pub sends: bool,
 }
 
-// One more repeat is used.
-fn repeated(h: Session) -> Session
-    requires { h.repeats < 4294967295 }
-    ensures { result ≡ repeated h }
-{
-    let mut next = h;
-    next.repeats = h.repeats + 1;
-    next
-}
-
-// Nothing goes out.
-fn waits(h: Session) -> Next
-    ensures { result ≡ waits h }
-{
-    Next {
-        session: h,
-        sends: false,
+impl Next {
+    // Nothing goes out. Two functions and no flag: the definitions `waits` and `again` are two.
+    fn waits(session: Session) -> Next
+        ensures { result ≡ waits session }
+    {
+        Next {
+            session,
+            sends: false,
+        }
     }
-}
 
-// The test's frame goes out again.
-fn again(h: Session) -> Next
-    ensures { result ≡ again h }
-{
-    Next {
-        session: h,
-        sends: true,
+    // The test's frame goes out again.
+    fn again(session: Session) -> Next
+        ensures { result ≡ again session }
+    {
+        Next {
+            session,
+            sends: true,
+        }
     }
 }
 
@@ -47,11 +42,9 @@ fn again(h: Session) -> Next
 pub fn on_timer(settings: Settings, session: Session) -> Next
     ensures { result ≡ on_timer settings session }
 {
-    if session.verdict != 0 {
-        return waits(session);
+    match ticked(session.open(), true, session.repeats, settings.repeats) {
+        Tick::Nothing => Next::waits(session),
+        Tick::Again => Next::again(session.repeated()),
+        Tick::Over => Next::waits(session.ended(Verdict::GivenUp)),
     }
-    if settings.repeats <= session.repeats {
-        return waits(looptest_record::ended(session, 3));
-    }
-    again(repeated(session))
 }

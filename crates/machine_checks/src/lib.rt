@@ -2,37 +2,36 @@
 #![tactic(auto)]
 
 ghost use Rattle.std.specs.Prelude.{◌≡◌};
+ghost use Rattle.refusal.specs.Refusal.{number_of};
 ghost use Rattle.machine_checks.specs.Checks.{refusal};
 
-use machine_record::{Machine, Settings};
+use machine_record::{Machine, Settings, State};
+use refusal::Refusal;
 
-// Why a step is refused before its input is read: 10, then 11, then 9; 0 if it is not.
-pub fn refusal(settings: Settings, machine: Machine, size: usize, room: usize) -> u8
-    ensures { result ≡ refusal settings machine size room }
+// Why a step is refused before its input is read, in their order. Settings and record are C's own arguments, as in each
+// step.
+#[tactic(auto, unfolding(step::specs::Step::first))]
+pub fn refusal(
+    settings: Settings,
+    machine: Machine,
+    size: usize,
+    room: usize,
+) -> Result<(), Refusal>
+    ensures { number_of result ≡ refusal settings machine size room }
 {
-    if 16777216 < size {
-        return 10;
-    }
-    if settings.reply_bytes < 1 {
-        return 10;
-    }
-    if 1495 < settings.reply_bytes {
-        return 10;
-    }
-    if !window::allowed(settings.window) {
-        return 10;
-    }
-    if !version::known(settings.version) {
-        return 10;
-    }
-    if 4 < machine.state {
-        return 10;
+    if 16777216 < size
+        || !(1..=1495).contains(&settings.reply_bytes)
+        || !settings.window.allowed()
+        || !version::known(settings.version)
+        || State::try_from(machine.state).is_err()
+    {
+        return Err(Refusal::Setting);
     }
     if !block::roomy(settings.version, size) {
-        return 11;
+        return Err(Refusal::Memory);
     }
     if room < 1500 {
-        return 9;
+        return Err(Refusal::Buffer);
     }
-    0
+    Ok(())
 }

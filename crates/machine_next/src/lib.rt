@@ -8,7 +8,8 @@ ghost use Rattle.machine_next.specs.declared.Sends.TheVariants.{Nothing, Data, L
 ghost use Rattle.machine_next.specs.Next.{parameters_fit, react, next, does};
 ghost use Rattle.machine_next.specs.Inner.{taken, heeded};
 
-use machine_record::{Machine, Settings};
+use machine_number::Heeded;
+use machine_record::{Machine, Settings, State};
 use message::Fields;
 
 // What goes out: nothing, the reply to a load (code 10) with its number and error, so many bytes of memory (code 14), or the
@@ -22,7 +23,7 @@ pub enum Sends {
 }
 
 // What it does next: its record, whether the frame's data goes to memory, whether its entries go into the record, and what
-// goes out.
+// goes out. Two flags, as `does` and `fills` of specs/Next.antt speak of each.
 #[derive(Clone, Copy)]
 pub struct Next {
     pub machine: Machine,
@@ -31,7 +32,7 @@ pub struct Next {
     pub sends: Sends,
 }
 
-// Nothing changes, and nothing goes out.
+// Nothing changes, and nothing goes out. The host's ends have one each, of a `Next` with other fields.
 fn ignored(machine: Machine) -> Next
     ensures { result ≡ next machine false false Nothing }
 {
@@ -43,7 +44,8 @@ fn ignored(machine: Machine) -> Next
     }
 }
 
-// A frame of data or of entries is taken; `fitted` is the machine after one that fits.
+// A frame of data or of entries is taken; `fitted` is the machine after one that fits. Its five values come from one call,
+// of `on_load`, and the definition `taken` has each: a struct of them is no plainer.
 fn taken(machine: Machine, number: u8, fit: bool, fitted: Machine, entries: bool) -> Next
     ensures { result ≡ taken machine number fit fitted entries }
 {
@@ -57,10 +59,8 @@ fn taken(machine: Machine, number: u8, fit: bool, fitted: Machine, entries: bool
         };
     }
     Next {
-        machine: machine_record::in_state(3, reply, 1, 0, machine.parameters),
-        takes: false,
-        keeps: false,
         sends: Sends::Load(reply, 1),
+        ..ignored(Machine::loading(reply, 1, machine.parameters))
     }
 }
 
@@ -68,34 +68,27 @@ fn taken(machine: Machine, number: u8, fit: bool, fitted: Machine, entries: bool
 fn on_load(machine: Machine, number: u8, fit: bool, fitted: Machine, entries: bool) -> Next
     ensures { result ≡ heeded machine number (taken machine number fit fitted entries) }
 {
-    let heed = machine_number::heed(machine, number);
-    if heed == 1 {
-        return taken(machine, number, fit, fitted, entries);
-    }
-    if heed == 2 {
-        return Next {
-            machine,
-            takes: false,
-            keeps: false,
+    match machine_number::heed(machine, number) {
+        Heeded::Ignored => ignored(machine),
+        Heeded::Taken => taken(machine, number, fit, fitted, entries),
+        Heeded::Again => Next {
             sends: Sends::Load(machine.expected, machine.error),
-        };
+            ..ignored(machine)
+        },
     }
-    ignored(machine)
 }
 
 // Code 4.
 fn on_dump(settings: Settings, machine: Machine, count: u16) -> Next
     ensures { result ≡ cond (is 0 machine || is 1 machine) (next machine false false (Data (min count settings.reply_bytes))) (next machine false false Nothing) }
 {
-    if 1 < machine.state {
+    if !machine.is(State::Idle) && !machine.is(State::Offering) {
         return ignored(machine);
     }
-    let n = octets::lesser(count as u64, settings.reply_bytes as u64);
+    let n = u32::from(count).min(settings.reply_bytes);
     Next {
-        machine,
-        takes: false,
-        keeps: false,
         sends: Sends::Data(n as usize),
+        ..ignored(machine)
     }
 }
 
@@ -103,24 +96,22 @@ fn on_dump(settings: Settings, machine: Machine, count: u16) -> Next
 fn on_complete(machine: Machine) -> Next
     ensures { result ≡ cond (is 1 machine) (next (idle machine.parameters) false false Nothing) (next machine false false Nothing) }
 {
-    if machine.state != 1 {
-        return ignored(machine);
+    if machine.is(State::Offering) {
+        return ignored(Machine::idle(machine.parameters));
     }
-    ignored(machine_record::in_state(0, 0, 0, 0, machine.parameters))
+    ignored(machine)
 }
 
 // Code 24: the same data comes back.
 fn on_loop(machine: Machine) -> Next
     ensures { result ≡ cond (is 0 machine) (next machine false false Looped) (next machine false false Nothing) }
 {
-    if machine.state != 0 {
+    if !machine.is(State::Idle) {
         return ignored(machine);
     }
     Next {
-        machine,
-        takes: false,
-        keeps: false,
         sends: Sends::Looped,
+        ..ignored(machine)
     }
 }
 
@@ -128,26 +119,23 @@ fn on_loop(machine: Machine) -> Next
 fn parameters_fit(settings: Settings, size: usize) -> bool
     ensures { result ≡ parameters_fit settings size }
 {
-    if !version::older(settings.version) {
-        return true;
-    }
-    memory::fitting(settings.window, block::place(size), block::LENGTH, size)
+    !version::older(settings.version)
+        || memory::fitting(settings.window, block::place(size), block::LENGTH, size)
 }
 
-// On a frame it decides by its code.
+// On a frame it decides by its code, a number in the fields that C is given too.
 pub fn react(settings: Settings, machine: Machine, f: Fields, size: usize) -> Next
     ensures { (frame memory : List ℕ) → length (part frame f) ≡ f.data_length → length memory ≡ size
         → does settings f frame memory result ≡ react settings machine f frame memory }
 {
-    let code = f.code;
-    match code {
+    match f.code {
         0 => {
             let fit = memory::fitting(settings.window, f.address as usize, f.data_length, size);
             on_load(
                 machine,
                 f.number,
                 fit,
-                machine_record::in_state(4, 0, 0, f.transfer, machine.parameters),
+                Machine::started(f.transfer, machine.parameters),
                 false,
             )
         }
@@ -157,19 +145,13 @@ pub fn react(settings: Settings, machine: Machine, f: Fields, size: usize) -> Ne
                 machine,
                 f.number,
                 fit,
-                machine_record::in_state(
-                    3,
-                    machine_number::after(f.number),
-                    0,
-                    0,
-                    machine.parameters,
-                ),
+                Machine::loading(machine_number::after(f.number), 0, machine.parameters),
                 false,
             )
         }
         20 => {
             let fit = parameters_fit(settings, size);
-            let fitted = machine_record::in_state(4, 0, 0, f.transfer, machine.parameters);
+            let fitted = Machine::started(f.transfer, machine.parameters);
             on_load(machine, f.number, fit, fitted, true)
         }
         4 => on_dump(settings, machine, f.count),

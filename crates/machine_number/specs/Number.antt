@@ -2,6 +2,8 @@
 use Rattle.std.specs.Prelude.{ℕ, ◌+◌, ◌%◌, ◌&&◌, ◌||◌, cond as pick, eqb}
 use Rattle.machine_record.specs.declared.Machine.{Machine}
 use Rattle.machine_record.specs.Record.{is}
+use Rattle.machine_number.specs.declared.Heeded.{Heeded}
+use Rattle.machine_number.specs.declared.Heeded.TheVariants.{Ignored, Taken, Again}
 
 -- the number after a number: after 255 comes 0
 abbrev pub after : ℕ → ℕ
@@ -15,3 +17,9 @@ heed m number =
     (pick (eqb number 0 || (is 3 m && eqb number m.expected)) 1
     (pick (is 3 m && eqb (after number) m.expected) 2
     0))
+
+-- the same as the code has it
+abbrev pub heeds : Heeded → ℕ
+heeds Ignored = 0
+heeds Taken = 1
+heeds Again = 2

@@ -3,6 +3,16 @@ use Rattle.std.specs.Prelude.{ℕ, Bool, eqb}
 use Rattle.parameters.specs.declared.Parameters.{Parameters}
 use Rattle.parameters.specs.Parameters.{none}
 use Rattle.machine_record.specs.declared.Machine.{Machine}
+use Rattle.machine_record.specs.declared.State.{State}
+use Rattle.machine_record.specs.declared.State.TheVariants.{Idle, Offering, Requesting, Loading, Started}
+
+-- the states by their numbers
+abbrev pub number : State → ℕ
+number Idle = 0
+number Offering = 1
+number Requesting = 2
+number Loading = 3
+number Started = 4
 
 -- a machine in a state, with Loading's expected number and last reply's error, Started's transfer address, and the parameters that it keeps
 abbrev pub in_state : ℕ → ℕ → ℕ → ℕ → Parameters → Machine

@@ -1,12 +1,13 @@
 // The machine end's settings and record (PROTOCOL 4, 'Machine end'), and what a step gives.
 #![tactic(auto)]
 
-ghost use Rattle.std.specs.Prelude.{◌≡◌};
-ghost use Rattle.buffer.specs.Lay.{refused};
-ghost use Rattle.machine_record.specs.Record.{in_state, keeping};
+ghost use Rattle.std.specs.Prelude.{◌≡◌, ◌<◌, MatchResult};
+ghost use Rattle.refusal.specs.declared.Refusal.TheVariants.{Setting};
+ghost use Rattle.machine_record.specs.Record.{number, idle, offering, requesting, loading, started, keeping, is};
 
 use buffer::Written;
 use parameters::Parameters;
+use refusal::Refusal;
 use window::Window;
 
 // Its settings: D, the most bytes of a dump reply; its device and processor; its version; its ROM window.
@@ -20,8 +21,46 @@ pub struct Settings {
     pub window: Window,
 }
 
+// The machine end's states, by their numbers.
+#[derive(Clone, Copy, PartialEq, Eq)]
+pub enum State {
+    Idle = 0,
+    Offering = 1,
+    Requesting = 2,
+    Loading = 3,
+    Started = 4,
+}
+
+impl From<State> for u8 {
+    ghost from_gives = { λ s n. n ≡ number s };
+
+    // Its number.
+    fn from(s: State) -> u8 {
+        s as u8
+    }
+}
+
+impl TryFrom<u8> for State {
+    type Error = Refusal;
+
+    ghost try_from_gives = { λ n r. MatchResult r (λ s. number s ≡ n) (λ e. (e ≡ Setting) × (4 < n)) };
+
+    // The state of a number, if it is one.
+    fn try_from(n: u8) -> Result<State, Refusal> {
+        match n {
+            0 => Ok(State::Idle),
+            1 => Ok(State::Offering),
+            2 => Ok(State::Requesting),
+            3 => Ok(State::Loading),
+            4 => Ok(State::Started),
+            _ => Err(Refusal::Setting),
+        }
+    }
+}
+
 // Its state: 0 Idle, 1 Offering, 2 Requesting, 3 Loading, 4 Started; Loading's expected number and last reply's error,
-// Started's transfer address, and the parameters that a code 20 gave it.
+// Started's transfer address, and the parameters that a code 20 gave it. The state is a number, since C has the record and
+// may give any.
 #[repr(C)]
 #[derive(Clone, Copy)]
 pub struct Machine {
@@ -32,7 +71,8 @@ pub struct Machine {
     pub parameters: Parameters,
 }
 
-// What a step gives: the next state, and the length of the frame to send, 0 for none, or a refusal.
+// What a step gives: the next state, and the length of the frame to send, 0 for none, or a refusal. One struct for both,
+// since C has it.
 #[repr(C)]
 #[derive(Clone, Copy)]
 pub struct Stepped {
@@ -40,44 +80,74 @@ pub struct Stepped {
     pub answer: Written,
 }
 
-// A machine in a state.
-pub fn in_state(
-    state: u8,
-    expected: u8,
-    error: u8,
-    transfer: u32,
-    parameters: Parameters,
-) -> Machine
-    ensures { result ≡ in_state state expected error transfer parameters }
-{
-    Machine {
-        transfer,
-        state,
-        expected,
-        error,
-        parameters,
+impl Machine {
+    // An Idle machine.
+    pub fn idle(parameters: Parameters) -> Machine
+        ensures { result ≡ idle parameters }
+    {
+        Machine {
+            transfer: 0,
+            state: State::Idle.into(),
+            expected: 0,
+            error: 0,
+            parameters,
+        }
     }
-}
 
-// The same machine, with other parameters.
-pub fn keeping(machine: Machine, parameters: Parameters) -> Machine
-    ensures { result ≡ keeping machine parameters }
-{
-    in_state(
-        machine.state,
-        machine.expected,
-        machine.error,
-        machine.transfer,
-        parameters,
-    )
-}
+    // A fresh Offering machine. One function for each state, as the definitions `offering` and `requesting` are.
+    pub fn offering() -> Machine
+        ensures { result ≡ offering }
+    {
+        Machine {
+            state: State::Offering.into(),
+            ..Machine::idle(parameters::none())
+        }
+    }
 
-// Nothing is sent: refusal 0 for a step that is silent.
-pub fn refused(machine: Machine, refusal: u8) -> Stepped
-    ensures { (result.machine ≡ machine) × (result.answer ≡ refused refusal) }
-{
-    Stepped {
-        machine,
-        answer: Written { length: 0, refusal },
+    // A fresh Requesting machine.
+    pub fn requesting() -> Machine
+        ensures { result ≡ requesting }
+    {
+        Machine {
+            state: State::Requesting.into(),
+            ..Machine::idle(parameters::none())
+        }
+    }
+
+    // A Loading machine, with its expected number and its last reply's error.
+    pub fn loading(expected: u8, error: u8, parameters: Parameters) -> Machine
+        ensures { result ≡ loading parameters expected error }
+    {
+        Machine {
+            state: State::Loading.into(),
+            expected,
+            error,
+            ..Machine::idle(parameters)
+        }
+    }
+
+    // A Started machine, with its transfer address.
+    pub fn started(transfer: u32, parameters: Parameters) -> Machine
+        ensures { result ≡ started parameters transfer }
+    {
+        Machine {
+            transfer,
+            state: State::Started.into(),
+            ..Machine::idle(parameters)
+        }
+    }
+
+    // The same machine, with other parameters.
+    pub fn keeping(self, parameters: Parameters) -> Machine
+        ensures { result ≡ keeping self parameters }
+    {
+        Machine { parameters, ..self }
+    }
+
+    // Whether it is in a state.
+    pub fn is(self, state: State) -> bool
+        ensures { result ≡ is (number state) self }
+    {
+        self.state == state.into()
     }
 }

@@ -1,4 +1,5 @@
 // The machine's turns in a rehearsal: on the host's first frame, and at its timer (PROTOCOL 8, 'Rehearsal').
+// The host's turns are another crate: `host_turns` says why.
 #![tactic(auto)]
 
 ghost use Rattle.std.specs.Prelude.{◌≡◌, List, ℕ, take};
@@ -6,20 +7,17 @@ ghost use Rattle.job.specs.Run.{run, machine_sent, machine_moves, Left, Joined};
 ghost use Rattle.machine_turns.specs.Turns.{machine_handed, machine_timed, machine_turn};
 
 use job::{Ends, Moved};
-use machine_record::{Settings, Stepped};
+use machine_record::Settings;
 
 // A call's frame, in the reply buffer, joins the machine's queue.
-fn send(ends: Ends, stepped: Stepped, reply: &[u8], places: &mut [[u8; 1500]; 16]) -> Moved
-    ensures { Joined (machine_sent ends stepped.machine) ends.from_machine places.old stepped.answer.length
-        (take stepped.answer.length reply.now) result places.new }
+fn send(ends: Ends, sent: usize, reply: &[u8], places: &mut [[u8; 1500]; 16]) -> Moved
+    ensures { Joined (machine_sent ends ends.machine) ends.from_machine places.old sent (take sent reply.now) result places.new }
 {
-    let sent = stepped.answer.length;
-    let machine = stepped.machine;
-    let queue = queue::send(ends.from_machine, reply, sent, places);
-    let mut next = ends;
-    next.machine = machine;
-    next.from_machine = queue;
-    Moved { ends: next, sent }
+    let ends = Ends {
+        from_machine: ends.from_machine.send(reply, sent, places),
+        ..ends
+    };
+    Moved { ends, sent }
 }
 
 // The host's first frame is handed over to the machine; without one nothing happens.
@@ -35,12 +33,13 @@ fn on_frame(
         (machine_handed settings (run ends memory.old host_places.now places.old reply.old)))
         result.ends result.sent memory.new host_places.now places.new reply.new }
 {
-    let frame = queue::first(ends.from_host, host_places);
-    if frame.len() == 0 {
+    let frame = ends.from_host.frame(host_places);
+    if frame.is_empty() {
         return Moved { ends, sent: 0 };
     }
-    let stepped = machine::frame(settings, ends.machine, frame, memory, reply);
-    send(ends, stepped, reply, places)
+    let mut machine = ends.machine;
+    let sent = machine::frame(settings, &mut machine, frame, memory, reply).unwrap_or(0);
+    send(Ends { machine, ..ends }, sent, reply, places)
 }
 
 // The machine's timer.
@@ -55,11 +54,11 @@ fn on_timer(
         (machine_timed settings (run ends memory.now hosts places.old reply.old)))
         result.ends result.sent memory.now hosts places.new reply.new }
 {
-    let stepped = machine_timer::timer(settings, ends.machine, memory, reply);
-    send(ends, stepped, reply, places)
+    let sent = machine_timer::timer(settings, ends.machine, memory, reply).unwrap_or(0);
+    send(ends, sent, reply, places)
 }
 
-// The machine's timer, or the host's first frame.
+// The machine's timer, or the host's first frame. By a bool, as the definition `machine_turn`: `host_turns` says why.
 pub fn act(
     settings: Settings,
     ends: Ends,

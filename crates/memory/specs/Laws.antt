@@ -6,8 +6,8 @@ use Rattle.std.proofs.Common.{◌∙◌, arith, length-take, drop_of_length-le, 
 use mathlib.Core.List.{List, ◌++◌, append_assoc}
 use Rattle.std.proofs.Math.Decide.{dec_lt}
 use Rattle.std.proofs.Math.ListN.{length, take, drop, replicate, length-append, length-drop, get_or-append, get_or-eq_default}
-use Rattle.std.proofs.lemmas.List.{length-replicate, replicate-append-replicate, get_or-replicate}
-use Rattle.std.proofs.Math.Seq.{take-append-le, take-append-add, get_or-take, get_or-drop}
+use Rattle.std.proofs.lemmas.List.{length-replicate, take-replicate, get_or-replicate}
+use Rattle.std.proofs.Math.Seq.{take-append-le, take-append-add, get_or-append_right, get_or-take, get_or-drop}
 use Rattle.octets.specs.TestLaws.{both}
 use Rattle.window.specs.declared.Window.{Window}
 use Rattle.window.specs.Window.{Lies, InWindow, touches}
@@ -133,16 +133,7 @@ laid-joined a b address memory h =
 
 -- ---- bytes of memory from an address on
 pub take-zeros : (k n : ℕ) → k ≤ n → take k (replicate {A = ℕ} n 0) ≡ replicate k 0
-take-zeros k n h =
-    let size : k + (n - k) ≡ n = omega arith in
-    let split : replicate {A = ℕ} k 0 ++ replicate (n - k) 0 ≡ replicate n 0 = replicate-append-replicate k (n - k) 0 ∙ ap (λ (i : ℕ). replicate i 0) size in
-    rw (← split) (take_at (replicate k 0) (replicate (n - k) 0) k (length-replicate k 0))
-
--- byte k of two lists on end, where it is one of the second
-second : (xs ys : List ℕ) (k : ℕ) → length xs ≤ k → get_or (xs ++ ys) k 0 ≡ get_or ys (k - length xs) 0
-second xs ys k h =
-    let at : k ≡ length xs + (k - length xs) = omega arith in
-    ap (λ (i : ℕ). get_or (xs ++ ys) i 0) at ∙ get_or-append-add xs ys (k - length xs) 0
+take-zeros k n h = take-replicate k n 0 h
 
 module _ (memory : List ℕ) (address n : ℕ) where
   pub length-bytes_from : length (bytes_from memory address n) ≡ n
@@ -159,7 +150,7 @@ module _ (memory : List ℕ) (address n : ℕ) where
       get_or-take n (rest ++ zeros) k 0 h
       ∙ (elim (dec_lt k (length rest)) [
         | yes l ↦ get_or-append rest zeros 0 k l ∙ get_or-drop address memory k 0
-        | no l ↦ second rest zeros k (omega arith) ∙ (get_or-replicate n (k - length rest) 0 0 (omega arith) ∙ sym (get_or-eq_default memory 0 (omega arith)))
+        | no l ↦ get_or-append_right rest zeros k 0 (omega arith) ∙ (get_or-replicate n (k - length rest) 0 0 (omega arith) ∙ sym (get_or-eq_default memory 0 (omega arith)))
       ])
 
   -- all of them in memory
@@ -207,5 +198,5 @@ bytes_from-joined memory address m n =
     (elim (dec_lt i (length one)) [
       | yes l ↦ get_or-append one two 0 i l ∙ get_or-bytes_from memory address m i (omega arith)
       | no l ↦ let at : address + m + (i - length one) ≡ address + i = omega arith in
-          second one two i (omega arith) ∙ (get_or-bytes_from memory (address + m) n (i - length one) (omega arith) ∙ ap (λ (k : ℕ). get_or memory k 0) at)
+          get_or-append_right one two i 0 (omega arith) ∙ (get_or-bytes_from memory (address + m) n (i - length one) (omega arith) ∙ ap (λ (k : ℕ). get_or memory k 0) at)
     ]))

@@ -1,7 +1,7 @@
 -- The two laws of frames, each over all codes and under each version.
 --     read-written    reading what was written yields the fields
 --     written_read    writing the fields of an accepted frame yields that frame, byte for byte
-use Rattle.std.specs.Prelude.{ℕ, suc, ◌+◌, ◌-◌, ◌^◌, ◌<◌, ◌≤◌, ◌≡◌, Bool, true, false, ◌&&◌, cond, List, [], ◌∷◌, ◌++◌, eqb, ltb}
+use Rattle.std.specs.Prelude.{ℕ, suc, ◌+◌, ◌-◌, ◌^◌, ◌<◌, ◌≤◌, ◌≡◌, Bool, true, false, ◌&&◌, cond, List, [], ◌∷◌, ◌++◌, eqb, ltb, Result, Ok, Err}
 use Rattle.std.proofs.Math.Path.{refl, sym}
 use Rattle.std.proofs.Common.{ap, ◌∙◌, subst, append_assoc, append-nil, le_antisymm, le_trans, add-one, length-append, length-take, take-append-drop, drop-cons, drop-drop, drop_at, take_at, take_all}
 use Rattle.std.proofs.Math.Option.{Option, none, some}
@@ -10,6 +10,8 @@ use Rattle.std.proofs.Math.ListN.{length, take, drop, length-drop, drop_of_lengt
 use Rattle.std.proofs.lemmas.List.{get_or_at}
 use Rattle.std.proofs.Math.Seq.{take-length}
 use borrow.Author.Tests.{eq-eqb, ne_eqb, lt-ltb, le-ltb, eqb-true, eqb-false, ltb-false, ltb-true}
+use Rattle.refusal.specs.declared.Refusal.{Refusal}
+use Rattle.refusal.specs.Laws.{own, some as some-refusal}
 use Rattle.octets.specs.Number.{word, low, Octets}
 use Rattle.octets.specs.NumberLaws.{octets-part, length-low, part-bound, number-low, low-number}
 use Rattle.buffer.specs.declared.Written.{Written}
@@ -20,7 +22,7 @@ use Rattle.entries_next.specs.declared.Place.TheVariants.{Kind, Size, Value, Tim
 use Rattle.entries.specs.Entries.{walk}
 use Rattle.entries.specs.Laws.{walk-ended, accepted}
 use Rattle.message.specs.Message.{Message, memory_load_transfer, memory_load, request_program, request_load, request_dump, request_dump_service, dump_data, dump_complete, volunteer, parameters, loop_data, looped_data, program_listed, form_listed, id_length}
-use Rattle.message.specs.Read.{byte, last_word, numbers, refused_fields, ended, Row, row, rows, find, judged, frame, fields, Reading, refused, message, stated, said, read}
+use Rattle.message.specs.Read.{byte, last_word, numbers, refused_fields, ended, Row, row, rows, find, judged, frame, fields, Reading, refused, message, stated, said, read, Reads}
 use Rattle.message.specs.declared.Fields.{Fields}
 use Rattle.message.specs.Write.{Part, entry_list, parts, joined, layout, listed, Sized, write, sent}
 
@@ -490,6 +492,13 @@ unfolding write
 write-back version s m o e out h =
     let b = written_read version s o m e in
     rw (b.1, b.0, le-ltb 1500 (length s) (fields-short version s (accepted-fields version s m e).0), le-ltb (length out) (length s) h) (refl, refl)
+
+-- what reading answers is one and no other by the numbers that it states
+pub reads-one : (a b : Result Fields Refusal) (g : Fields) → Reads a g → Reads b g → a ≡ b
+reads-one (Ok f) (Ok h) g p q = ap Ok (p.1 ∙ sym q.1)
+reads-one (Ok f) (Err r) g p q = absurd (omega (arith, some-refusal r, ap (λ k. k.refusal) q, p.0))
+reads-one (Err r) (Ok f) g p q = absurd (omega (arith, some-refusal r, ap (λ k. k.refusal) p, q.0))
+reads-one (Err r) (Err s) g p q = ap Err (own r s (ap (λ k. k.refusal) (p ∙ sym q)))
 
 -- a listed message's frame, laid into a buffer, is what its writer gives
 pub wrote : (version : ℕ) (m : Message) (out f : List ℕ) {answer : Written} {buffer : List ℕ} → Came (laid f out) answer buffer → f ≡ layout m → listed version m ≡ true

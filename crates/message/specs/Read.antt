@@ -1,8 +1,10 @@
 -- Reading a frame: its fields in numbers, or a refusal (PROTOCOL 2, 'Messages', and 7, 'Refusals'), and the message
 -- that the numbers state. The order: empty, code, least length, excess, then the bytes in turn.
-use Rattle.std.specs.Prelude.{ℕ, ◌+◌, ◌-◌, Bool, false, ◌||◌, cond as pick, length, get_or, take, drop, eqb, ltb}
+use Rattle.std.specs.Prelude.{ℕ, ◌+◌, ◌-◌, Bool, false, ◌||◌, cond as pick, ◌≡◌, Result, Ok, Err, length, get_or, take, drop, eqb, ltb}
 use mathlib.Core.List.{List, [], ◌∷◌, foldr}
 use Rattle.std.proofs.Math.Option.{Option, none, some}
+use Rattle.refusal.specs.declared.Refusal.{Refusal}
+use Rattle.refusal.specs.Refusal.{number}
 use Rattle.octets.specs.Number.{word}
 use Rattle.entries_next.specs.declared.Place.{Place}
 use Rattle.entries_next.specs.declared.Place.TheVariants.{Kind, Size, Value, Time, Transfer, Outside, Excess}
@@ -53,6 +55,11 @@ numbers refusal code at fixed s =
 -- a refused frame has code 255, which no frame has
 abbrev pub refused_fields : ℕ → Fields
 refused_fields refusal = numbers refusal 255 0 0 []
+
+-- reading answers these numbers: their refusal, or if it is 0, them
+abbrev pub Reads : Result Fields Refusal → Fields → Type 0
+Reads (Ok f) g = (g.refusal ≡ 0) × (f ≡ g)
+Reads (Err r) g = refused_fields (number r) ≡ g
 
 -- ---- the bytes in turn; 0 is no refusal
 -- code 8: the program type is judged first, then the form, then where the id ends

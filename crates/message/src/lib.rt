@@ -4,11 +4,14 @@
 
 ghost use Rattle.std.specs.Prelude.{◌≡◌};
 ghost use Rattle.message.specs.Read.{refused_fields};
+ghost use Rattle.refusal.specs.Refusal.{number};
+
+use refusal::Refusal;
 
 // A frame's fields in numbers: what reading answers, what the ends decide by, and what crosses the boundary to C. Fields
 // that the frame's code does not have are 0. `data_at` and `data_length` are the place of the variable part in the frame,
 // `id_at` and `id_length` that of a software id. A refused frame has its refusal, code 255, which no frame has, and 0 in
-// all else.
+// all else. Refusal, code and the rest are numbers, since C has the struct.
 #[repr(C)]
 #[derive(Clone, Copy)]
 pub struct Fields {
@@ -56,12 +59,18 @@ pub const BLANK: Fields = Fields {
     compatibility: 0,
 };
 
-// A refused frame: no code.
-pub fn refused(refusal: u8) -> Fields
-    ensures { result ≡ refused_fields refusal }
-{
-    let mut f = BLANK;
-    f.refusal = refusal;
-    f.code = 255;
-    f
+// The code of a refused frame, which no frame has.
+pub const NO_CODE: u8 = 255;
+
+impl From<Refusal> for Fields {
+    ghost from_gives = { λ r f. f ≡ refused_fields (number r) };
+
+    // The fields of a refused frame.
+    fn from(r: Refusal) -> Fields {
+        Fields {
+            refusal: r.into(),
+            code: NO_CODE,
+            ..BLANK
+        }
+    }
 }

@@ -11,6 +11,7 @@ ghost use Rattle.segments.specs.Segments.{checked, found};
 
 use buffer::Written;
 use message::Fields;
+use refusal::Refusal;
 use segments::{Image, Segment};
 
 // A frame's fields under a version: mop_fields of the header.
@@ -19,12 +20,19 @@ pub extern "C" fn mop_read(version: u8, frame: &[u8]) -> Fields
     ensures { result ≡ cond (known version) (fields version frame.now) (refused_fields 10) }
 {
     if !version::known(version) {
-        return message::refused(10);
+        return Fields::from(Refusal::Setting);
     }
-    reader::read(version, frame)
+    let mut f = message::BLANK;
+    if let Err(r) = reader::fill(version, frame, &mut f) {
+        // All else is 0 still. `Fields::from(r)` would store it anew.
+        f.refusal = r.into();
+        f.code = message::NO_CODE;
+    }
+    f
 }
 
-// A writer for each code. Its answer is mop_written of the header. All but that of code 20 write the same under each version.
+// A writer for each code. Its answer is mop_written of the header. All but that of code 20 write the same under each
+// version.
 
 #[unsafe(no_mangle)]
 pub extern "C" fn mop_write_load_transfer(
@@ -36,14 +44,14 @@ pub extern "C" fn mop_write_load_transfer(
 ) -> Written
     ensures { (version : ℕ) → Came (write version (memory_load_transfer number address bytes.now transfer) out.old) result out.new }
 {
-    writer::memory_load_transfer(number, address, bytes, transfer, out)
+    Written::from(writer::memory_load_transfer(number, address, bytes, transfer, out))
 }
 
 #[unsafe(no_mangle)]
 pub extern "C" fn mop_write_load(number: u8, address: u32, bytes: &[u8], out: &mut [u8]) -> Written
     ensures { (version : ℕ) → Came (write version (memory_load number address bytes.now) out.old) result out.new }
 {
-    writer::memory_load(number, address, bytes, out)
+    Written::from(writer::memory_load(number, address, bytes, out))
 }
 
 #[unsafe(no_mangle)]
@@ -59,21 +67,23 @@ pub extern "C" fn mop_write_request_program(
 ) -> Written
     ensures { (version : ℕ) → Came (write version (request_program device format program form id.now processor info.now) out.old) result out.new }
 {
-    writer_listed::request_program(device, format, program, form, id, processor, info, out)
+    Written::from(writer_listed::request_program(
+        device, format, program, form, id, processor, info, out,
+    ))
 }
 
 #[unsafe(no_mangle)]
 pub extern "C" fn mop_write_request_load(number: u8, error: u8, out: &mut [u8]) -> Written
     ensures { (version : ℕ) → Came (write version (request_load number error) out.old) result out.new }
 {
-    writer::request_load(number, error, out)
+    Written::from(writer::request_load(number, error, out))
 }
 
 #[unsafe(no_mangle)]
 pub extern "C" fn mop_write_request_dump(address: u32, count: u16, out: &mut [u8]) -> Written
     ensures { (version : ℕ) → Came (write version (request_dump address count) out.old) result out.new }
 {
-    writer::request_dump(address, count, out)
+    Written::from(writer::request_dump(address, count, out))
 }
 
 #[unsafe(no_mangle)]
@@ -87,28 +97,28 @@ pub extern "C" fn mop_write_request_dump_service(
 ) -> Written
     ensures { (version : ℕ) → Came (write version (request_dump_service device format size compatibility info.now) out.old) result out.new }
 {
-    writer::request_dump_service(device, format, size, compatibility, info, out)
+    Written::from(writer::request_dump_service(device, format, size, compatibility, info, out))
 }
 
 #[unsafe(no_mangle)]
 pub extern "C" fn mop_write_dump_data(address: u32, bytes: &[u8], out: &mut [u8]) -> Written
     ensures { (version : ℕ) → Came (write version (dump_data address bytes.now) out.old) result out.new }
 {
-    writer::dump_data(address, bytes, out)
+    Written::from(writer::dump_data(address, bytes, out))
 }
 
 #[unsafe(no_mangle)]
 pub extern "C" fn mop_write_dump_complete(out: &mut [u8]) -> Written
     ensures { (version : ℕ) → Came (write version dump_complete out.old) result out.new }
 {
-    writer::dump_complete(out)
+    Written::from(writer::dump_complete(out))
 }
 
 #[unsafe(no_mangle)]
 pub extern "C" fn mop_write_volunteer(out: &mut [u8]) -> Written
     ensures { (version : ℕ) → Came (write version volunteer out.old) result out.new }
 {
-    writer::volunteer(out)
+    Written::from(writer::volunteer(out))
 }
 
 #[unsafe(no_mangle)]
@@ -122,26 +132,23 @@ pub extern "C" fn mop_write_parameters(
     ensures { Came (cond (known version) (write version (parameters number entries.now transfer) out.old) (refuse 10 out.old)) result out.new }
 {
     if !version::known(version) {
-        return Written {
-            length: 0,
-            refusal: 10,
-        };
+        return Written::from(Err(Refusal::Setting));
     }
-    writer_listed::parameters(version, number, entries, transfer, out)
+    Written::from(writer_listed::parameters(version, number, entries, transfer, out))
 }
 
 #[unsafe(no_mangle)]
 pub extern "C" fn mop_write_loop(receipt: u16, bytes: &[u8], out: &mut [u8]) -> Written
     ensures { (version : ℕ) → Came (write version (loop_data receipt bytes.now) out.old) result out.new }
 {
-    writer::loop_data(receipt, bytes, out)
+    Written::from(writer::loop_data(receipt, bytes, out))
 }
 
 #[unsafe(no_mangle)]
 pub extern "C" fn mop_write_looped(receipt: u16, bytes: &[u8], out: &mut [u8]) -> Written
     ensures { (version : ℕ) → Came (write version (looped_data receipt bytes.now) out.old) result out.new }
 {
-    writer::looped_data(receipt, bytes, out)
+    Written::from(writer::looped_data(receipt, bytes, out))
 }
 
 // Image files: mop_image and mop_segment of the header.
@@ -150,12 +157,12 @@ pub extern "C" fn mop_write_looped(receipt: u16, bytes: &[u8], out: &mut [u8]) -
 pub extern "C" fn mop_image_check(file: &[u8], segment_size: u32) -> Image
     ensures { result ≡ checked file.now segment_size }
 {
-    segments::check(file, segment_size)
+    Image::from(segments::check(file, segment_size))
 }
 
 #[unsafe(no_mangle)]
 pub extern "C" fn mop_image_segment(file: &[u8], segment_size: u32, index: u64) -> Segment
     ensures { result ≡ found file.now segment_size index }
 {
-    segments::find(file, segment_size, index)
+    Segment::from(segments::find(file, segment_size, index))
 }

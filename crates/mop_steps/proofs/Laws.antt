@@ -34,16 +34,16 @@ use Rattle.dump_record.specs.declared.Sends.TheVariants.{Complete}
 use Rattle.dump_record.specs.declared.Next.{Next as DumpNext}
 use Rattle.dump_record.specs.Record as dump_record
 use Rattle.dump_next.specs.Next as dump
-use Rattle.dump_timer.specs.Timer.{repeated as repeated_dump, on_timer as on_dump_timer}
+use Rattle.dump_timer.specs.Timer.{on_timer as on_dump_timer}
 use Rattle.dump_checks.specs.Checks as dump_checks
 use Rattle.dump.specs.Dump as dumps
 use Rattle.dump.specs.Dump.{dump_frame, dump_timer}
 use Rattle.looptest_record.specs.declared.Settings.{Settings as LoopSettings}
 use Rattle.looptest_record.specs.declared.Session.{Session as LoopSession}
 use Rattle.looptest_timer.specs.declared.Next.{Next as LoopNext}
-use Rattle.looptest_record.specs.Record.{ended as ended_loop}
+use Rattle.looptest_record.specs.Record.{ended as ended_loop, repeated as repeated_loop}
 use Rattle.looptest_next.specs.Next as loop_next
-use Rattle.looptest_timer.specs.Timer.{repeated as repeated_loop, on_timer as on_loop_timer}
+use Rattle.looptest_timer.specs.Timer.{on_timer as on_loop_timer}
 use Rattle.looptest.specs.Loop as loop
 use Rattle.looptest.specs.Loop.{loop_frame, loop_timer}
 use Rattle.mop_steps.specs.Ignored.{Leaving, Seen, load_verdict, load_passed, dump_verdict, dump_passed, loop_verdict, machine_state}
@@ -164,7 +164,7 @@ module _ (s : DumpSettings) (h : DumpSession) (buffer reply : List ℕ) where
       called dump_verdict h h buffer reply (dump_checks.refusal s h (length buffer) (length reply)) (dumps.does s (on_dump_timer s h) buffer)
       (by_cases T (eqb h.verdict 0) (λ _.
       by_cases T (eqb h.waiting 0) (λ _.
-      by_cases T (ltb h.repeats s.repeats) (λ _. asks h buffer (repeated_dump h) false) (λ _. completes h buffer (dump_record.ended h 3) false)) (λ _. still))
+      by_cases T (ltb h.repeats s.repeats) (λ _. asks h buffer (dump_record.repeated h) false) (λ _. completes h buffer (dump_record.ended h 3) false)) (λ _. still))
       (λ _. still))
     where
       T : DumpNext → Type 0

@@ -12,6 +12,9 @@ ghost use Rattle.dump_record.specs.Record.{fresh as fresh_dump};
 ghost use Rattle.dump.specs.Dump.{dump_frame, dump_timer};
 ghost use Rattle.looptest.specs.Loop.{loop_start, loop_frame, loop_timer};
 
+use buffer::Written;
+use machine_record::Machine;
+
 // The machine end: mop_machine of the header.
 
 #[unsafe(no_mangle)]
@@ -19,10 +22,12 @@ pub extern "C" fn mop_machine_start_load(
     settings: machine_record::Settings,
     memory: &[u8],
     reply: &mut [u8],
-) -> machine::Stepped
+) -> machine_record::Stepped
     ensures { Leaves (machine_timer settings requesting memory.now reply.old) result.machine result.answer memory.now reply.new }
 {
-    machine_timer::start_load(settings, memory, reply)
+    let machine = Machine::requesting();
+    let answer = Written::from(machine_timer::timer(settings, machine, memory, reply));
+    machine_record::Stepped { machine, answer }
 }
 
 #[unsafe(no_mangle)]
@@ -30,35 +35,40 @@ pub extern "C" fn mop_machine_start_dump(
     settings: machine_record::Settings,
     memory: &[u8],
     reply: &mut [u8],
-) -> machine::Stepped
+) -> machine_record::Stepped
     ensures { Leaves (machine_timer settings offering memory.now reply.old) result.machine result.answer memory.now reply.new }
 {
-    machine_timer::start_dump(settings, memory, reply)
+    let machine = Machine::offering();
+    let answer = Written::from(machine_timer::timer(settings, machine, memory, reply));
+    machine_record::Stepped { machine, answer }
 }
 
 #[unsafe(no_mangle)]
 pub extern "C" fn mop_machine_frame(
     settings: machine_record::Settings,
-    machine: machine_record::Machine,
+    machine: Machine,
     frame: &[u8],
     memory: &mut [u8],
     reply: &mut [u8],
-) -> machine::Stepped
+) -> machine_record::Stepped
     ensures { Leaves (machine_frame settings machine frame.now memory.old reply.old) result.machine result.answer memory.new reply.new }
 {
-    machine::frame(settings, machine, frame, memory, reply)
+    let mut machine = machine;
+    let answer = Written::from(machine::frame(settings, &mut machine, frame, memory, reply));
+    machine_record::Stepped { machine, answer }
 }
 
 #[unsafe(no_mangle)]
 pub extern "C" fn mop_machine_timer(
     settings: machine_record::Settings,
-    machine: machine_record::Machine,
+    machine: Machine,
     memory: &[u8],
     reply: &mut [u8],
-) -> machine::Stepped
+) -> machine_record::Stepped
     ensures { Leaves (machine_timer settings machine memory.now reply.old) result.machine result.answer memory.now reply.new }
 {
-    machine_timer::timer(settings, machine, memory, reply)
+    let answer = Written::from(machine_timer::timer(settings, machine, memory, reply));
+    machine_record::Stepped { machine, answer }
 }
 
 // The host's load: mop_load of the header.
@@ -81,7 +91,9 @@ pub extern "C" fn mop_load_frame(
 ) -> load::Stepped
     ensures { Leaves (load_frame settings session file.now parameters.now frame.now reply.old) result.session result.answer tt reply.new }
 {
-    load::frame(settings, session, file, parameters, frame, reply)
+    let mut session = session;
+    let answer = Written::from(load::frame(settings, &mut session, file, parameters, frame, reply));
+    load::Stepped { session, answer }
 }
 
 #[unsafe(no_mangle)]
@@ -94,7 +106,9 @@ pub extern "C" fn mop_load_timer(
 ) -> load::Stepped
     ensures { Leaves (load_timer settings session file.now parameters.now reply.old) result.session result.answer tt reply.new }
 {
-    load::timer(settings, session, file, parameters, reply)
+    let mut session = session;
+    let answer = Written::from(load::timer(settings, &mut session, file, parameters, reply));
+    load::Stepped { session, answer }
 }
 
 // The host's dump: mop_dump of the header.
@@ -116,7 +130,9 @@ pub extern "C" fn mop_dump_frame(
 ) -> dump::Stepped
     ensures { Leaves (dump_frame settings session frame.now buffer.old reply.old) result.session result.answer buffer.new reply.new }
 {
-    dump::frame(settings, session, frame, buffer, reply)
+    let mut session = session;
+    let answer = Written::from(dump::frame(settings, &mut session, frame, buffer, reply));
+    dump::Stepped { session, answer }
 }
 
 #[unsafe(no_mangle)]
@@ -128,7 +144,9 @@ pub extern "C" fn mop_dump_timer(
 ) -> dump::Stepped
     ensures { Leaves (dump_timer settings session buffer.now reply.old) result.session result.answer buffer.now reply.new }
 {
-    dump::timer(settings, session, buffer, reply)
+    let mut session = session;
+    let answer = Written::from(dump::timer(settings, &mut session, buffer, reply));
+    dump::Stepped { session, answer }
 }
 
 // The host's loop test: mop_loop of the header.
@@ -141,7 +159,9 @@ pub extern "C" fn mop_loop_start(
 ) -> looptest::Stepped
     ensures { Leaves (loop_start settings bytes.now reply.old) result.session result.answer tt reply.new }
 {
-    looptest::start(settings, bytes, reply)
+    let session = looptest::begun();
+    let answer = Written::from(looptest::start(settings, bytes, reply));
+    looptest::Stepped { session, answer }
 }
 
 #[unsafe(no_mangle)]
@@ -154,7 +174,9 @@ pub extern "C" fn mop_loop_frame(
 ) -> looptest::Stepped
     ensures { Leaves (loop_frame settings session bytes.now frame.now reply.now) result.session result.answer tt reply.now }
 {
-    looptest::frame(settings, session, bytes, frame, reply)
+    let mut session = session;
+    let answer = Written::from(looptest::frame(settings, &mut session, bytes, frame, reply));
+    looptest::Stepped { session, answer }
 }
 
 #[unsafe(no_mangle)]
@@ -166,5 +188,7 @@ pub extern "C" fn mop_loop_timer(
 ) -> looptest::Stepped
     ensures { Leaves (loop_timer settings session bytes.now reply.old) result.session result.answer tt reply.new }
 {
-    looptest::timer(settings, session, bytes, reply)
+    let mut session = session;
+    let answer = Written::from(looptest::timer(settings, &mut session, bytes, reply));
+    looptest::Stepped { session, answer }
 }

@@ -20,9 +20,7 @@ pub extern "C" fn mop_load_update_frame(
 ) -> Written
     ensures { Leaves (load_frame settings session.old file.now parameters.now frame.now reply.old) session.new result tt reply.new }
 {
-    let r = load::frame(settings, *session, file, parameters, frame, reply);
-    *session = r.session;
-    r.answer
+    Written::from(load::frame(settings, session, file, parameters, frame, reply))
 }
 
 #[unsafe(no_mangle)]
@@ -35,9 +33,7 @@ pub extern "C" fn mop_load_update_timer(
 ) -> Written
     ensures { Leaves (load_timer settings session.old file.now parameters.now reply.old) session.new result tt reply.new }
 {
-    let r = load::timer(settings, *session, file, parameters, reply);
-    *session = r.session;
-    r.answer
+    Written::from(load::timer(settings, session, file, parameters, reply))
 }
 
 // The host's dump: mop_dump of the header.
@@ -52,9 +48,7 @@ pub extern "C" fn mop_dump_update_frame(
 ) -> Written
     ensures { Leaves (dump_frame settings session.old frame.now buffer.old reply.old) session.new result buffer.new reply.new }
 {
-    let r = dump::frame(settings, *session, frame, buffer, reply);
-    *session = r.session;
-    r.answer
+    Written::from(dump::frame(settings, session, frame, buffer, reply))
 }
 
 #[unsafe(no_mangle)]
@@ -66,7 +60,5 @@ pub extern "C" fn mop_dump_update_timer(
 ) -> Written
     ensures { Leaves (dump_timer settings session.old buffer.now reply.old) session.new result buffer.now reply.new }
 {
-    let r = dump::timer(settings, *session, buffer, reply);
-    *session = r.session;
-    r.answer
+    Written::from(dump::timer(settings, session, buffer, reply))
 }

@@ -1,7 +1,9 @@
 -- Numbers of several bytes: laws that hold at every width.
 use Rattle.std.specs.Prelude.{ℕ, zero, suc, ◌+◌, ◌-◌, ◌*◌, ◌/◌, ◌%◌, ◌^◌, ◌<◌, ◌≤◌, min, ◌≡◌, refl, List, [], ◌∷◌, length, get_or, take, drop}
-use Rattle.std.proofs.Common.{ap, arith, lt_of_lt_of_le, add-zero, add_assoc, length-take, length-drop, get_or-take, get_or-drop, drop-drop}
-use Rattle.std.proofs.Math.Nat.{pow-succ', pow-le-pow_right}
+use Rattle.std.specs.Int.{byte_at, bytes_low_first}
+use Rattle.std.proofs.Math.Nat.{div-div-eq-div-mul}
+use Rattle.std.proofs.Common.{ap, sym, ◌∙◌, arith, lt_of_lt_of_le, add-zero, add_assoc, length-take, length-drop, get_or-take, get_or-drop, drop-drop}
+use Rattle.std.proofs.Math.Nat.{pow-suc, pow-succ', pow-le-pow_right}
 use Rattle.std.proofs.Math.Seq.{take-nil}
 use Rattle.octets.specs.Number.{number, low, Octets}
 
@@ -75,3 +77,18 @@ pub number-four : (at : ℕ) (xs : List ℕ)
     → number (take 4 (drop at xs)) ≡ get_or xs at 0 + 256 * (get_or xs (at + 1) 0 + 256 * (get_or xs (at + 2) 0 + 256 * get_or xs (at + 3) 0))
 unfolding number
 number-four at xs = omega (arith, number_at 3 at xs, number_on 2 1 at xs, number_on 1 2 at xs, number_on 0 3 at xs)
+
+-- ---- the low bytes of a number as std writes them, from byte i on
+byte-at : (i x : ℕ) → byte_at i x ≡ x / 256 ^ i % 256
+byte-at zero x = omega arith
+byte-at (suc i) x = refl
+
+pub low_std_from : (i n x : ℕ) → bytes_low_first i n x ≡ low n (x / 256 ^ i)
+unfolding low
+low_std_from i zero x = refl
+low_std_from i (suc n) x =
+    let rest : x / 256 ^ suc i ≡ x / 256 ^ i / 256 = rw (pow-suc 256 i) (sym (div-div-eq-div-mul x (256 ^ i) 256)) in
+    rw (byte-at i x, low_std_from (suc i) n x, rest)
+
+pub low_std : (n x : ℕ) → bytes_low_first 0 n x ≡ low n x
+low_std n x = let one : x / 256 ^ 0 ≡ x = omega arith in low_std_from 0 n x ∙ ap (low n) one

@@ -89,3 +89,19 @@ module _ (s : List ℕ) (at n k : ℕ) (h : at + n ≤ length s) (e : k ≡ min 
 -- the bytes that are copied, with what is behind them, in the form that `copied` takes
 pub laid_first : (new part rest : List ℕ) (n : ℕ) → new ≡ part → length part ≡ n → new ++ drop n rest ≡ take (length part) part ++ drop (length part) rest
 laid_first new part rest n e z = rw (take-length part, z, e)
+
+-- ---- the same by slices
+-- an entry in front, with its value cut at the entries' end
+pub latest-in : (kind : ℕ) (before s : List ℕ) (n : ℕ) → 2 ≤ length s → n ≡ min (get_or s 1 0) (length (drop 2 s))
+    → latest kind (pick (eqb (get_or s 0 0) kind) (take n (drop 2 s)) before) 0 (drop n (drop 2 s)) ≡ latest kind before 0 s
+latest-in kind before [] n l e = absurd (omega arith)
+latest-in kind before (x ∷ []) n l e = absurd (omega arith)
+latest-in kind before (other ∷ size ∷ after) n l e =
+    let c = clipped kind size after (leb size (length after)) refl in
+    rw (latest_cons kind before other size after, c.0, c.1, e)
+
+pub latest-short : (kind : ℕ) (before s : List ℕ) → length s < 2 → latest kind before 0 s ≡ before
+unfolding latest
+latest-short kind before [] h = refl
+latest-short kind before (x ∷ []) h = refl
+latest-short kind before (x ∷ (y ∷ xs)) h = absurd (omega arith)

@@ -1,10 +1,13 @@
 // The parameters that a code 20 frame gives a machine, which keeps them (PROTOCOL 4, 'Machine end').
 #![tactic(auto)]
 
-ghost use Rattle.std.specs.Prelude.{◌≡◌, cond, [], ◌+◌, ◌≤◌, length, take, drop};
+ghost use Rattle.std.specs.Prelude.{◌≡◌, [], cond};
+ghost use Rattle.entries_next.specs.Kind.{number};
 ghost use Rattle.parameters.specs.Parameters.{latest, value, kept, none};
 
-// A name, an address or a time: as many bytes as the length says, then zeros.
+use entries_next::Kind;
+
+// A name, an address or a time: as many bytes as the length says, then zeros. C has the length beside the bytes.
 #[repr(C)]
 #[derive(Clone, Copy)]
 pub struct Value {
@@ -23,49 +26,37 @@ pub struct Parameters {
     pub host_time: Value,
 }
 
-// Where a value stands in the entries.
-#[derive(Clone, Copy)]
-struct Stretch {
-    at: usize,
-    length: usize,
+// An entry's value if it is of the type, else the value before it. A function, so that the loop's proof has no cases;
+// a crate for one `if`, shared with `either` of words, would be no plainer.
+fn later<'a>(same: bool, value: &'a [u8], before: &'a [u8]) -> &'a [u8]
+    ensures { result.now ≡ cond same value.now before.now }
+{
+    if same { value } else { before }
 }
 
-// The value of a later entry, if it has the type.
-fn later(before: Stretch, same: bool, at: usize, length: usize) -> Stretch
-    ensures { result ≡ cond same (record { at = at; length = length }) before }
+// The last value of a type, within the entries; empty if there is none.
+fn find(entries: &[u8], kind: u8) -> &[u8]
+    ensures { result.now ≡ latest kind [] 0 entries.now }
 {
-    if same {
-        return Stretch { at, length };
-    }
-    before
-}
-
-// Where the last value of a type stands.
-fn find(entries: &[u8], kind: u8) -> Stretch
-    ensures { (result.at + result.length ≤ length entries.now)
-        × (take result.length (drop result.at entries.now) ≡ latest kind [] 0 entries.now) }
-{
-    let mut found = Stretch { at: 0, length: 0 };
-    let mut i = 0usize;
-    while i + 1 < entries.len() {
-        let at = i + 2;
-        let n = octets::lesser(entries[i + 1] as u64, (entries.len() - at) as u64) as usize;
-        found = later(found, entries[i] == kind, at, n);
-        i = at + n;
+    let mut found = &entries[..0];
+    let mut left = entries;
+    // An entry's length says where the next begins, which no iterator of the library does.
+    while let [other, size, rest @ ..] = left {
+        let n = usize::from(*size).min(rest.len());
+        found = later(*other == kind, &rest[..n], found);
+        left = &rest[n..];
     }
     found
 }
 
 // The last value of a type, zeros behind it.
-fn last(entries: &[u8], kind: u8) -> Value
-    ensures { result ≡ value (latest kind [] 0 entries.now) }
+fn last(entries: &[u8], kind: Kind) -> Value
+    ensures { result ≡ value (latest (number kind) [] 0 entries.now) }
 {
-    let found = find(entries, kind);
-    let n = octets::lesser(16, found.length as u64) as usize;
-    let at = found.at;
-    let end = at + n;
+    let found = find(entries, kind.into());
+    let n = found.len().min(16);
     let mut kept = [0u8; 16];
-    kept[..n].copy_from_slice(&entries[at..end]);
+    kept[..n].copy_from_slice(&found[..n]);
     Value {
         length: n as u8,
         bytes: kept,
@@ -77,11 +68,11 @@ pub fn keep(entries: &[u8]) -> Parameters
     ensures { result ≡ kept entries.now }
 {
     Parameters {
-        target_name: last(entries, 1),
-        target_address: last(entries, 2),
-        host_name: last(entries, 3),
-        host_address: last(entries, 4),
-        host_time: last(entries, 5),
+        target_name: last(entries, Kind::TargetName),
+        target_address: last(entries, Kind::TargetAddress),
+        host_name: last(entries, Kind::HostName),
+        host_address: last(entries, Kind::HostAddress),
+        host_time: last(entries, Kind::HostTime),
     }
 }
 
@@ -89,6 +80,5 @@ pub fn keep(entries: &[u8]) -> Parameters
 pub fn none() -> Parameters
     ensures { result ≡ none }
 {
-    let entries = [0u8; 0];
-    keep(&entries)
+    keep(&[])
 }

@@ -1,3 +1,4 @@
 pub mod Pattern
+pub mod Marks
 pub mod Laws
 pub mod MostLaws

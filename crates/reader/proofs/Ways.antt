@@ -6,8 +6,8 @@ use mathlib.Core.List.{List}
 use mathlib.Core.Option.{Option, none, some}
 use native.Mathlib.Omega.{arith}
 use lib.ListN.{length}
-use lib.Dec.{ltb}
-use borrow.Author.Tests.{ne_eqb, ltb-false}
+use lib.Dec.{eqb, ltb}
+use borrow.Author.Tests.{ltb-false}
 use Rattle.message.specs.declared.Fields.{Fields}
 use Rattle.message.specs.Read.{refused_fields, byte, Row, rows, find, judged, frame, fields}
 use Rattle.codes.specs.Table.{refusal}
@@ -39,14 +39,14 @@ module _ (version : ℕ) (s : List ℕ) where
       (r.0, ltb-false (length s) row.shortest r.1)
 
   module _ (n : ℕ) (e : n ≡ refusal (length s) (find rows (byte s 0))) where
-    pub long : n ≡ 0 → at_least (find rows (byte s 0)) ≤ length s
-    long h = (frame_right (find rows (byte s 0)) (sym e ∙ h)).1
+    pub long : 0 ≡ n → at_least (find rows (byte s 0)) ≤ length s
+    long h = (frame_right (find rows (byte s 0)) (sym e ∙ sym h)).1
 
-    module _ (full : length s ≡ 0 → ⊥) where
+    module _ (full : false ≡ eqb (length s) 0) where
       pub refuses : (n ≡ 0 → ⊥) → refused_fields n ≡ fields version s
       unfolding fields
-      refuses h = rw (ne_eqb (length s) 0 full, frame_refused (find rows (byte s 0)) (rw e at h), e)
+      refuses h = rw (← full, frame_refused (find rows (byte s 0)) (rw e at h), e)
 
-      pub right : n ≡ 0 → by_row version s (find rows (byte s 0)) ≡ fields version s
+      pub right : 0 ≡ n → by_row version s (find rows (byte s 0)) ≡ fields version s
       unfolding fields
-      right h = rw (ne_eqb (length s) 0 full, (frame_right (find rows (byte s 0)) (sym e ∙ h)).0)
+      right h = rw (← full, (frame_right (find rows (byte s 0)) (sym e ∙ sym h)).0)

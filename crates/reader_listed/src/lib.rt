@@ -4,85 +4,87 @@
 ghost use Rattle.std.specs.Prelude.{◌≡◌, cond, ℕ, ◌+◌, ◌≤◌, length, ltb};
 ghost use Rattle.message.specs.Message.{id_length};
 ghost use Rattle.message.specs.Read.{byte, numbers, refused_fields, ended, judged};
+ghost use Rattle.refusal.specs.Refusal.{number_of};
+ghost use Rattle.reader_listed.specs.Filled.{Filled};
 
 use entries_next::Place;
 use message::Fields;
+use refusal::Refusal;
 
-// Code 8, request program: 1 below its least length, else its bytes in turn.
-pub fn request_program(s: &[u8]) -> Fields
-    ensures { (version : ℕ) → result ≡ cond (ltb (length s.now) 6) (refused_fields 1) (judged version 8 6 6 s.now) }
+// Code 8, request program: `Refusal::Short` below its least length, else its bytes in turn.
+pub fn request_program(s: &[u8], f: &mut Fields) -> Result<(), Refusal>
+    ensures { (version : ℕ) → Filled result f.old f.new (cond (ltb (length s.now) 6) (refused_fields 1) (judged version 8 6 6 s.now)) }
 {
     if s.len() < 6 {
-        return message::refused(1);
+        return Err(Refusal::Short);
     }
     let program = s[3];
     if 2 < program {
-        return message::refused(4);
+        return Err(Refusal::Field);
     }
-    let form = s[4];
-    if form <= 16 {
-        return with_id(s, form as usize);
+    match s[4] {
+        form @ 0..=16 => with_id(s, usize::from(form), f),
+        254..=255 => with_id(s, 0, f),
+        _ => Err(Refusal::Field),
     }
-    if form < 254 {
-        return message::refused(4);
-    }
-    with_id(s, 0)
 }
 
 // A program request whose software id has n bytes.
-fn with_id(s: &[u8], n: usize) -> Fields
+fn with_id(s: &[u8], n: usize, f: &mut Fields) -> Result<(), Refusal>
     requires { (6 ≤ length s.now) × (n ≤ 16) × (n ≡ id_length (byte s.now 4)) }
-    ensures { result ≡ cond (ltb (length s.now) (6 + n)) (refused_fields 1) (numbers 0 8 6 6 s.now) }
+    ensures { Filled result f.old f.new (cond (ltb (length s.now) (6 + n)) (refused_fields 1) (numbers 0 8 6 6 s.now)) }
 {
     let end = 6 + n;
     if s.len() < end {
-        return message::refused(1);
+        return Err(Refusal::Short);
     }
-    let mut f = message::BLANK;
-    f.code = 8;
-    f.device = s[1];
-    f.format = s[2];
-    f.program = s[3];
-    f.form = s[4];
-    f.id_at = 5;
-    f.id_length = n;
-    f.processor = s[5 + n];
-    f.data_at = end;
-    f.data_length = s.len() - end;
-    f
+    *f = Fields {
+        code: 8,
+        device: s[1],
+        format: s[2],
+        program: s[3],
+        form: s[4],
+        id_at: 5,
+        id_length: n,
+        processor: s[5 + n],
+        data_at: end,
+        data_length: s.len() - end,
+        ..message::BLANK
+    };
+    Ok(())
 }
 
-// Code 20, parameter load with transfer, alike, under a version.
-pub fn parameters(version: u8, s: &[u8]) -> Fields
-    ensures { result ≡ cond (ltb (length s.now) 7) (refused_fields 1) (judged version 20 2 7 s.now) }
+// Code 20, parameter load with transfer, alike, under a version. Inlined, its calls make the reader save registers for every
+// code.
+#[inline(never)]
+pub fn parameters(version: u8, s: &[u8], f: &mut Fields) -> Result<(), Refusal>
+    ensures { Filled result f.old f.new (cond (ltb (length s.now) 7) (refused_fields 1) (judged version 20 2 7 s.now)) }
 {
     if s.len() < 7 {
-        return message::refused(1);
+        return Err(Refusal::Short);
     }
-    let refusal = ended(entries::walk(version, s, 2));
-    if refusal != 0 {
-        return message::refused(refusal);
-    }
-    let mut f = message::BLANK;
-    f.code = 20;
-    f.number = s[1];
-    f.transfer = octets::word32(s, s.len() - 4);
-    f.data_at = 2;
-    f.data_length = s.len() - 7;
-    f
+    ended(entries::walk(version, s, 2))?;
+    *f = Fields {
+        code: 20,
+        number: s[1],
+        transfer: octets::word32(s, s.len() - 4),
+        data_at: 2,
+        data_length: s.len() - 7,
+        ..message::BLANK
+    };
+    Ok(())
 }
 
-// What the place means at which the walk ended; 0 is no refusal.
-fn ended(p: Place) -> u8
-    ensures { result ≡ ended p }
+// What the place means at which the walk ended.
+fn ended(p: Place) -> Result<(), Refusal>
+    ensures { number_of result ≡ ended p }
 {
     match p {
-        Place::Kind => 1,
-        Place::Size(_) => 1,
-        Place::Value(_) => 1,
-        Place::Time(_, _) => 1,
-        Place::Transfer(n) => if n == 0 { 0 } else { 1 },
-        Place::Outside => 4,
-        Place::Excess => 2,
+        Place::Transfer(0) => Ok(()),
+        Place::Kind | Place::Size(_) | Place::Value(_) | Place::Time(_, _) | Place::Transfer(_) => {
+            Err(Refusal::Short)
+        }
+        Place::Outside => Err(Refusal::Field),
+        Place::Excess => Err(Refusal::Long),
     }
 }

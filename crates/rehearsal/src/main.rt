@@ -1,131 +1,67 @@
-// Runs both ends over a line as standard input says, and prints the transcript (PROTOCOL 8, 'Rehearsal'). Every line is written by a function of `job` and `transcript`; here
-// bytes move between them, the events and the system's calls.
+// Runs both ends over a line as standard input says, and prints the transcript (PROTOCOL 8, 'Rehearsal'). Every line is
+// written by a function of `job` and `transcript`; here bytes move between them, the events and the system's calls. The
+// program `explain` has the same parts, of other lines; what both share is in `player`.
 #![tactic(auto)]
 
-ghost use Rattle.std.specs.Prelude.{◌≤◌, length, IfOk};
+ghost use Rattle.job.specs.Run.{frame_line, end_line};
 
-use job::{Ends, Setup};
-use std::io::{self, Read, Write};
-
-// Prints the line at a buffer's start.
-fn print<W: Write>(out: &mut W, line: &[u8], length: usize) -> io::Result<()> {
-    out.write_all(text::part(line, 0, length))
-}
+use job::Ends;
+use player::{Teller, play, print, read_full};
+use refusal::Refusal;
+use std::io::{self, Write};
 
 // The line of a refused input.
-fn refuse<W: Write>(out: &mut W, refusal: u8) -> io::Result<()> {
+fn refuse<W: Write>(out: &mut W, refusal: Refusal) -> io::Result<()> {
     let mut line = [0u8; 16];
-    let written = transcript::bad(refusal, &mut line);
-    print(out, &line, written.length)
+    let written = transcript::bad(refusal.into(), &mut line);
+    print(out, &line, written)
 }
 
-// The line of a frame that was sent at an event.
-fn show<W: Write>(out: &mut W, letter: u8, reply: &[u8], sent: usize) -> io::Result<()> {
-    let mut line = [0u8; 3003];
-    let written = job::line(letter, text::part(reply, 0, sent), &mut line);
-    print(out, &line, written.length)
-}
+// The transcript.
+struct Transcript;
 
-// The last line.
-fn close<W: Write>(out: &mut W, ends: Ends, memory: &[u8]) -> io::Result<()> {
-    let mut line = [0u8; 8400];
-    let written = job::end(ends, memory, &mut line);
-    print(out, &line, written.length)
-}
+impl Teller for Transcript {
+    ghost told = { λ t letter before after frame. frame_line letter frame };
 
-// One event, and its line.
-fn step<W: Write>(
-    out: &mut W,
-    setup: Setup,
-    letter: u8,
-    ends: Ends,
-    file: &[u8],
-    memory: &mut [u8],
-    host_places: &mut [[u8; 1500]; 16],
-    machine_places: &mut [[u8; 1500]; 16],
-    reply: &mut [u8],
-) -> io::Result<Ends> {
-    let moved = rehearse::event(
-        setup,
-        letter,
-        ends,
-        file,
-        memory,
-        host_places,
-        machine_places,
-        reply,
-    );
-    show(out, letter, reply, moved.sent)?;
-    Ok(moved.ends)
-}
+    ghost last = { λ t ends memory. end_line ends memory };
 
-// The machine's first frame, which it sends as at its timer, the events in turn, the last line.
-fn play<W: Write>(
-    out: &mut W,
-    setup: Setup,
-    letters: &[u8],
-    file: &[u8],
-    memory: &mut [u8],
-) -> io::Result<()> {
-    let mut host_places = [[0u8; 1500]; 16];
-    let mut machine_places = [[0u8; 1500]; 16];
-    let mut reply = [0u8; 1500];
-    let mut ends = step(
-        out,
-        setup,
-        b'n',
-        job::fresh(),
-        file,
-        memory,
-        &mut host_places,
-        &mut machine_places,
-        &mut reply,
-    )?;
-    let mut i = 0;
-    while i < letters.len() {
-        ends = step(
-            out,
-            setup,
-            letters[i],
-            ends,
-            file,
-            memory,
-            &mut host_places,
-            &mut machine_places,
-            &mut reply,
-        )?;
-        i += 1;
+    // The line of a frame that was sent at an event.
+    fn event<W: Write>(
+        &self,
+        out: &mut W,
+        letter: u8,
+        _before: Ends,
+        _after: Ends,
+        frame: &[u8],
+    ) -> io::Result<()> {
+        let mut line = [0u8; 3003];
+        let written = job::line(letter, frame, &mut line);
+        print(out, &line, written)
     }
-    close(out, ends, memory)
-}
 
-// Reads until a buffer is full or the input ends, and answers how many bytes came.
-fn read_full<R: Read>(input: &mut R, buffer: &mut [u8]) -> io::Result<usize>
-    ensures { IfOk result (λ n. n ≤ length buffer.new) }
-{
-    let mut at = 0;
-    while at < buffer.len() {
-        let n = input.read(&mut buffer[at..])?;
-        if n == 0 {
-            return Ok(at);
-        }
-        at += n;
+    // The last line.
+    fn end<W: Write>(&self, out: &mut W, ends: Ends, memory: &[u8]) -> io::Result<()> {
+        let mut line = [0u8; 8400];
+        let written = job::end(ends, memory, &mut line);
+        print(out, &line, written)
     }
-    Ok(at)
 }
 
+// The program `explain` has the same but for its teller, which is made of the job: one function for both would take a
+// closure that makes the teller and one for the refusal, and be no plainer.
 fn main(rt: HostRuntime) -> io::Result<()> {
     let mut out = io::writer(&rt);
     let mut input = [0u8; 8193];
     let mut space = [0u8; 4096];
     let mut memory = [0u8; 4096];
     let n = read_full(&mut rt.reader(), &mut input)?;
-    let job = job::read(&input[..n], &mut space);
-    if job.refusal != 0 {
-        return refuse(&mut out, job.refusal);
-    }
-    let size = octets::lesser(job.script.memory as u64, 4096) as usize;
+    let job = match job::read(&input[..n], &mut space) {
+        Ok(job) => job,
+        Err(refusal) => return refuse(&mut out, refusal),
+    };
+    let size = job.script.memory.min(4096);
     play(
+        &Transcript,
         &mut out,
         job.setup,
         text::part(&input, job.script.events_at, job.script.events_length),

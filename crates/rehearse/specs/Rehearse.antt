@@ -89,9 +89,9 @@ file_of r = take r.job.file r.space
 -- what is printed of an input: a refusal, or the first frame, the frames sent at each event, and the last line
 abbrev pub printed : List ℕ → Reading → List ℕ
 printed input r =
-    pick (eqb r.job.refusal 0)
+    pick (eqb r.refusal 0)
     (begun r.job.setup (file_of r) (begin r.job.setup (fresh r.job.script.memory)) (letters_of input r.job))
-    (bad_line r.job.refusal)
+    (bad_line r.refusal)
 
 abbrev pub transcript : List ℕ → List ℕ
 transcript input = printed input (reading input (replicate 4096 0))

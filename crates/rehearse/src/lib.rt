@@ -8,35 +8,30 @@ ghost use Rattle.rehearse.specs.Rehearse.{host_left, machine_left, event};
 
 use job::{Ends, Moved, Setup};
 
-// Whether it is the machine that may send at an event.
+// Whether it is the machine that may send at an event; job's `host_sends` has the other letters, as the definitions have.
 fn machine_sends(letter: u8) -> bool
     ensures { result ≡ machine_sends letter }
 {
-    match letter {
-        b'h' => true,
-        b'k' => true,
-        b'n' => true,
-        _ => false,
-    }
+    matches!(letter, b'h' | b'k' | b'n')
 }
 
-// The host's first frame leaves its queue, or the machine's.
+// The host's first frame leaves its queue, or the machine's: two functions, since a field cannot be passed.
 fn host_leaves(ends: Ends) -> Ends
     ensures { result ≡ host_left ends }
 {
-    let queue = queue::leave(ends.from_host);
-    let mut next = ends;
-    next.from_host = queue;
-    next
+    Ends {
+        from_host: ends.from_host.leave(),
+        ..ends
+    }
 }
 
 fn machine_leaves(ends: Ends) -> Ends
     ensures { result ≡ machine_left ends }
 {
-    let queue = queue::leave(ends.from_machine);
-    let mut next = ends;
-    next.from_machine = queue;
-    next
+    Ends {
+        from_machine: ends.from_machine.leave(),
+        ..ends
+    }
 }
 
 // The frame that leaves its queue at an event, after the turn.
@@ -44,10 +39,8 @@ fn leave(letter: u8, ends: Ends) -> Ends
     ensures { result ≡ leaving letter ends }
 {
     match letter {
-        b'h' => host_leaves(ends),
-        b'x' => host_leaves(ends),
-        b't' => machine_leaves(ends),
-        b'y' => machine_leaves(ends),
+        b'h' | b'x' => host_leaves(ends),
+        b't' | b'y' => machine_leaves(ends),
         _ => ends,
     }
 }
@@ -58,11 +51,13 @@ fn left(letter: u8, moved: Moved) -> Moved
 {
     Moved {
         ends: leave(letter, moved.ends),
-        sent: moved.sent,
+        ..moved
     }
 }
 
-// One event: the turn that its letter gives to an end, if it gives one, and the frame that leaves.
+// One event: the turn that its letter gives to an end, if it gives one, and the frame that leaves. The letter is a byte,
+// since any other byte is an event too, at which nothing happens. The buffers are apart: a struct that holds `&mut` needs
+// for each field a clause that it is the same borrow.
 pub fn event(
     setup: Setup,
     letter: u8,

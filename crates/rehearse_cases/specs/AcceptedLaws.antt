@@ -1,6 +1,6 @@
 -- What a caller may take for granted of an input that is not refused.
-use Rattle.std.specs.Prelude.{ℕ, ◌+◌, ◌<◌, ◌≤◌, Bool, true, false, ◌&&◌, cond as pick, ◌≡◌, refl, List, length, take, drop, eqb, leb}
-use Rattle.std.proofs.Common.{ap, sym, subst, ◌∙◌, arith, leb-true, eqb-true}
+use Rattle.std.specs.Prelude.{ℕ, ◌+◌, ◌<◌, ◌≤◌, Bool, true, false, ◌&&◌, cond as pick, Ok, ◌≡◌, refl, List, length, take, drop, eqb, leb}
+use Rattle.std.proofs.Common.{sym, subst, arith, leb-true, eqb-true}
 use Rattle.octets.specs.TestLaws.{both}
 use Rattle.decimal.specs.Decimal.{is_number, value}
 use Rattle.script.specs.Script.{ranges, third_at, memory, size, repeats, is_settings, is_image, only, events, end, settings_line, image_line, events_line, well_formed, malformed, said, checked}
@@ -55,11 +55,11 @@ said-accepted s h =
       events_are = p.4;
     }
 
-picked : (b : Bool) (r x y : Script) → r ≡ pick b x y → (y.refusal ≡ 0 → ⊥) → r.refusal ≡ 0 → (b ≡ true) × (r ≡ x)
-picked true r x y e n h = (refl, e)
-picked false r x y e n h = absurd (n (sym (ap (λ (t : Script). t.refusal) e) ∙ h))
+picked : (b : Bool) (r x : Script) → Ok r ≡ pick b (Ok x) malformed → (b ≡ true) × (r ≡ x)
+picked true r x e = (refl, cc)
+picked false r x e = let z : ◌≡◌ {A = ℕ} 0 1 = cc in absurd (omega arith)
 
-pub accepted : (s : List ℕ) (r : Script) → r ≡ checked s → r.refusal ≡ 0 → Accepted s r
-accepted s r e h =
-    let p = picked (well_formed s) r (said s) malformed e (λ z. omega arith) h in
+pub accepted : (s : List ℕ) (r : Script) → Ok r ≡ checked s → Accepted s r
+accepted s r e =
+    let p = picked (well_formed s) r (said s) e in
     subst (λ (t : Script). Accepted s t) (sym p.1) (said-accepted s p.0)

@@ -1,5 +1,5 @@
 -- Inputs and what the definition says of them: the worked input of PROTOCOL 8, 'Rehearsal', and slips.
-use Rattle.std.specs.Prelude.{ℕ, ◌≡◌, refl, List, [], ◌∷◌, ◌++◌}
+use Rattle.std.specs.Prelude.{ℕ, ◌≡◌, refl, Ok, List, [], ◌∷◌, ◌++◌}
 use Prim.Native.String.{String}
 use Rattle.text.specs.Find.{index_of}
 use Rattle.digits.specs.Digits.{nibble}
@@ -12,13 +12,13 @@ abbrev lines : String → String → String → List ℕ
 lines a b c = chars a ++ (10 ∷ (chars b ++ (10 ∷ (chars c ++ (10 ∷ [])))))
 
 pub worked : checked (lines "8 2 1" "0A0B0C0200000000000000030000000300000001000000020000001F000000" "txmhtht")
-    ≡ record { memory = 8; image_at = 6; image_length = 62; events_at = 69; events_length = 7; segment_size = 2; repeats = 1; refusal = 0 }
+    ≡ Ok (record { memory = 8; image_at = 6; image_length = 62; events_at = 69; events_length = 7; segment_size = 2; repeats = 1 })
 unfolding index_of only are_digits value nibble hexadecimal
 worked = refl
 
 -- no image and no events are well formed, and 0 has no leading zero
 pub least : checked (lines "1 1 0" "" "")
-    ≡ record { memory = 1; image_at = 6; image_length = 0; events_at = 7; events_length = 0; segment_size = 1; repeats = 0; refusal = 0 }
+    ≡ Ok (record { memory = 1; image_at = 6; image_length = 0; events_at = 7; events_length = 0; segment_size = 1; repeats = 0 })
 unfolding index_of only are_digits value nibble hexadecimal
 least = refl
 

@@ -1,9 +1,10 @@
 -- An accepted input has accepted settings, an accepted image of bytes, an accepted length of memory, and at most 8,192 letters that are events.
-use Rattle.std.specs.Prelude.{ℕ, zero, suc, ◌+◌, ◌*◌, ◌≤◌, ◌<◌, ◌≡◌, refl, true, false, ◌&&◌, List, [], ◌∷◌, length, take, drop, eqb, ltb}
+use Rattle.std.specs.Prelude.{ℕ, zero, suc, ◌+◌, ◌*◌, ◌≤◌, ◌<◌, ◌≡◌, refl, true, false, ◌&&◌, List, [], ◌∷◌, Result, Ok, Err, length, take, drop, eqb, ltb}
 use Rattle.std.proofs.Common.{arith, length-take, length-drop, take_at, eqb-true, ltb-true, le-leb}
-use Rattle.std.proofs.lemmas.Bool.{eqb-false}
 use Rattle.octets.specs.Number.{Octets}
 use Rattle.octets.specs.TestLaws.{by_cases, both}
+use Rattle.refusal.specs.declared.Refusal.{Refusal}
+use Rattle.refusal.specs.Laws.{some}
 use Rattle.buffer.specs.Lay.{Output}
 use Rattle.digits.specs.Digits.{nibble}
 use Rattle.hexadecimal.specs.Hexadecimal.{Decoded, not_hexadecimal, spelled, is_digit, before, hexadecimal, decoded}
@@ -15,7 +16,7 @@ use Rattle.script.specs.Script.{only, events, checked}
 use Rattle.step.specs.Step.{first}
 use Rattle.machine_record.specs.Record.{requesting}
 use Rattle.machine_checks.specs.Checks.{refusal}
-use Rattle.job.specs.Job.{setup, image_in, bytes_of, Reading, with_image, reading}
+use Rattle.job.specs.Job.{setup, image_in, bytes_of, Reading, with_image, read_by, reading}
 use Rattle.link_load.specs.Report.{lays_block}
 use Rattle.rehearse.specs.Rehearse.{letters_of, file_of}
 use Rattle.rehearse_cases.specs.AcceptedLaws.{accepted}
@@ -72,15 +73,13 @@ accepts : (t : Script) (size : ℕ) → size ≤ 4096 → refusal (setup t).mach
 unfolding first
 accepts t size h = rw (le-leb size 16777216 (omega arith))
 
-pub ready : (input space : List ℕ) → (reading input space).job.refusal ≡ 0 → Ready input (reading input space)
-ready input space =
-    by_cases (λ (r : Reading). r.job.refusal ≡ 0 → Ready input r) (eqb (checked input).refusal 0)
-    (λ e z. whole (checked input) refl (eqb-true (checked input).refusal 0 e) z) (λ e z. absurd (eqb-false (checked input).refusal 0 e z))
+pub ready : (input space : List ℕ) → (reading input space).refusal ≡ 0 → Ready input (reading input space)
+ready input space = by_answer (checked input) refl
   where
-    whole : (t : Script) → t ≡ checked input → t.refusal ≡ 0 → (image_checked (bytes_of (image_in input t space)) t.segment_size).refusal ≡ 0
+    whole : (t : Script) → Ok t ≡ checked input → (image_checked (bytes_of (image_in input t space)) t.segment_size).refusal ≡ 0
         → Ready input (with_image t (image_in input t space))
-    whole t e h z =
-        let a = accepted input t e h in
+    whole t e z =
+        let a = accepted input t e in
         record {
           image = image-whole (bytes_of (image_in input t space)) t.segment_size z;
           octets = laid-octets (hexadecimal (take t.image_length (drop t.image_at input))) space (spells (take t.image_length (drop t.image_at input)));
@@ -93,3 +92,7 @@ ready input space =
           letters = a.events_are;
           short = simp (length-take, length-drop) (omega (arith, a.short));
         }
+
+    by_answer : (a : Result Script Refusal) → a ≡ checked input → (read_by a input space).refusal ≡ 0 → Ready input (read_by a input space)
+    by_answer (Ok t) e h = whole t e h
+    by_answer (Err r) e h = absurd (omega (arith, some r))

@@ -2,7 +2,7 @@
 use Rattle.std.specs.Prelude.{ℕ, ◌≡◌, refl, true, false, List, [], ◌∷◌, length, eqb, ltb}
 use Rattle.std.proofs.Common.{sym, ◌∙◌, arith, length-append, ne_eqb}
 use Rattle.std.proofs.lemmas.Bool.{eqb-false}
-use Rattle.text.specs.Find.{index_after, index_of}
+use Rattle.text.specs.Find.{index_of}
 use Rattle.octets.specs.TestLaws.{by_cases, both}
 use Rattle.script.specs.Script.{only, events}
 use Rattle.job.specs.declared.Setup.{Setup}

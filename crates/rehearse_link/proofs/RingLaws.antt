@@ -5,7 +5,7 @@ use Rattle.std.proofs.lemmas.Bool.{lt-leb, eqb-false}
 use Rattle.octets.specs.TestLaws.{by_cases}
 use Rattle.buffer.specs.Lay.{put}
 use Rattle.queue.specs.declared.Queue.{Queue}
-use Rattle.queue.specs.Queue.{front, free, leave, first, sent, keeps}
+use Rattle.queue.specs.Queue.{free, leave, first, sent, keeps}
 use Rattle.rehearse_link.specs.Ring.{frames_from, frames, Ring}
 
 -- places that are written elsewhere

@@ -54,7 +54,7 @@ module _ (input : List ℕ) (a : Accepted input) where
       let x = last (settings input) (image input) (begun input) (letters_of input (asked input).job) in
       let t = begin (settings input) (fresh (asked input).job.script.memory) in (
         begin_line t ++ x.0,
-        (rw (eq-eqb (asked input).job.refusal 0 a)) ∙ ap (λ (l : List ℕ). begin_line t ++ l) x.1 ∙ sym (append_assoc (begin_line t) x.0 (end_line (ended input).ends (ended input).memory)),
+        (rw (eq-eqb (asked input).refusal 0 a)) ∙ ap (λ (l : List ℕ). begin_line t ++ l) x.1 ∙ sym (append_assoc (begin_line t) x.0 (end_line (ended input).ends (ended input).memory)),
       )
 
   -- there is no reset in a rehearsal: the report is measured from the memory before its first event

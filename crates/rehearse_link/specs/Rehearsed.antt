@@ -17,7 +17,7 @@ module _ (input : List ℕ) where
 
   -- no `BAD` is printed of it
   abbrev pub Accepted : Type 0
-  Accepted = asked.job.refusal ≡ 0
+  Accepted = asked.refusal ≡ 0
 
   abbrev pub settings : Setup
   settings = asked.job.setup

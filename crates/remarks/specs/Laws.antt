@@ -1,11 +1,13 @@
 -- Words stand behind their spaces; the two ways of a remark.
-use Rattle.std.specs.Prelude.{ℕ, ◌+◌, ◌-◌, ◌*◌, ◌≤◌, min, ◌≡◌, refl, Bool, true, false, List, [], ◌∷◌, ◌++◌, length, take}
+use Rattle.std.specs.Prelude.{ℕ, ◌+◌, ◌-◌, ◌*◌, ◌≤◌, min, ◌≡◌, Bool, true, false, Result, Ok, Err, List, [], ◌∷◌, ◌++◌, length, take}
+use Rattle.std.specs.Result.{result_unwrap_or}
 use Rattle.std.proofs.Common.{sym, ap, subst, ◌∙◌, arith, length-append, take_at, length-take-le, eq-eqb, ne_eqb}
 use Rattle.std.proofs.lemmas.List.{length-replicate, replicate-append-replicate, take-append-le}
 use Rattle.std.proofs.Math.Seq.{take-append-add}
 use borrow.Rule.Slice.PartMut.{mid_of, post_of, put_mid, mid_len}
 use Rattle.buffer.specs.declared.Written.{Written}
-use Rattle.buffer.specs.Lay.{Came, written}
+use Rattle.buffer.specs.Lay.{Came, written, written_of}
+use Rattle.refusal.specs.declared.Refusal.{Refusal}
 use Rattle.text.specs.Text.{placed}
 use Rattle.text.specs.Laws.{placed-there}
 use Rattle.hexadecimal.specs.Hexadecimal.{pairs}
@@ -39,6 +41,12 @@ worded w k h {r} {rest} came =
     ap (λ (m : ℕ). take (m + r.length) (spaces k ++ (rest ++ post))) (sym n) ∙ take-append-add (spaces k) (rest ++ post) r.length
     ∙ ap (λ (x : List ℕ). spaces k ++ x) (take-append-le r.length rest post there.0 ∙ there.1) in
     (omega arith, rw (spaced k (omega arith), length-append, length-append) (omega (arith, n, there.0)), rw (spaced k (omega arith)) cut)
+
+pub worded_by : (w : Words) (k : ℕ) → k ≤ 22 → (a : Result ℕ Refusal) (n : ℕ) → n ≡ result_unwrap_or a 0 → {rest : List ℕ}
+    → Came (placed (spoken w) (mid_of k (330 - k) (spaces 330))) (written_of a) rest
+    → (k + n ≤ 330) × (k + n ≤ length (put_mid k (330 - k) (spaces 330) rest)) × (take (k + n) (put_mid k (330 - k) (spaces 330) rest) ≡ spaces k ++ spoken w)
+worded_by w k h (Ok m) n e {rest} came = rw e (worded w k h came)
+worded_by w k h (Err r) n e {rest} came = rw e (worded w k h came)
 
 pub beside-whole : (letter : ℕ) (bytes : List ℕ) (w : Words) (out : List ℕ) (n : ℕ) → n ≡ min (length bytes) 10 → (tail : List ℕ) → tail ≡ spaces (22 - 2 * n) ++ spoken w
     → {r : Written} {out' : List ℕ} → Came (placed (letter ∷ 32 ∷ [] ++ (pairs bytes ++ tail)) out) r out' → Came (placed (beside_line letter bytes w) out) r out'

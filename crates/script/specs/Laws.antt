@@ -1,10 +1,24 @@
 -- What the loops of the check lean on.
-use Rattle.std.specs.Prelude.{ℕ, ◌+◌, ◌-◌, ◌<◌, ◌≤◌, Bool, true, false, ◌≡◌, List, [], ◌∷◌, length, get_or, take, drop, eqb}
-use Rattle.std.proofs.Common.{arith, add-one, drop_of_length-le, length-drop, drop-cons, lt-ltb, le-ltb}
+use Rattle.std.specs.Prelude.{ℕ, suc, ◌+◌, ◌-◌, ◌<◌, ◌≤◌, Bool, true, false, ◌≡◌, refl, List, [], ◌∷◌, length, get_or, take, drop, eqb, ltb}
+use Rattle.std.specs.List.{list_any}
+use Rattle.std.proofs.Common.{sym, ◌∙◌, ltb-true, ltb-false, arith, add-one, drop_of_length-le, length-drop, drop-cons, lt-ltb, le-ltb}
+use Rattle.text.specs.Laws.{by_test}
 use Rattle.text.specs.Find.{index_after, index_of}
 use Rattle.script.specs.Script.{up_to, behind, only}
 
 -- ---- letters
+-- a letter is one of some where the place of the first such is before their end
+pub contained : (letters : List ℕ) (c : ℕ) → list_any (λ y. eqb y c) letters ≡ ltb (index_of c letters) (length letters)
+unfolding index_of
+contained [] c = refl
+contained (d ∷ rest) c =
+    let n = index_of c rest in
+    let m = length rest in
+    by_test (eqb d c) _ (λ e. rw e (sym (lt-ltb 0 (suc m) (omega arith))))
+    (λ e.
+    rw (e, contained rest c)
+    (by_test (ltb n m) _ (λ f. f ∙ sym (lt-ltb (suc n) (suc m) (omega (arith, ltb-true n m f)))) (λ f. f ∙ sym (le-ltb (suc n) (suc m) (omega (arith, ltb-false n m f))))))
+
 pub only_on : (letters s : List ℕ) (i : ℕ) → i < length s → index_of (get_or s i 0) letters < length letters → only letters (drop i s) ≡ only letters (drop (i + 1) s)
 unfolding only
 only_on letters s i h l = rw (drop-cons s i 0 h, lt-ltb (index_of (get_or s i 0) letters) (length letters) l, add-one i)

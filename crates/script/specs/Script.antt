@@ -1,6 +1,9 @@
 -- The rehearsal program's input (PROTOCOL 8, 'Rehearsal'): three lines, each ended by a line feed.
 -- A text is the list of its characters' codes; `index_of b` is the place of the first b in one, its length if there is none.
-use Rattle.std.specs.Prelude.{ℕ, ◌+◌, Bool, true, ◌&&◌, cond as pick, List, [], ◌∷◌, length, take, drop, eqb, leb, ltb}
+use Rattle.std.specs.Prelude.{ℕ, ◌+◌, Bool, ◌&&◌, cond as pick, Result, Ok, Err, List, length, take, drop, eqb, leb, ltb}
+use Rattle.std.specs.List.{list_all}
+use Rattle.refusal.specs.declared.Refusal.{Refusal}
+use Rattle.refusal.specs.declared.Refusal.TheVariants.{Setting}
 use Rattle.text.specs.Find.{index_of}
 use Rattle.text.specs.Text.{chars}
 use Rattle.decimal.specs.Decimal.{is_number, value}
@@ -17,8 +20,7 @@ behind b s from = from + index_of b (drop from s) + 1
 
 -- every character is one of the letters
 unfoldable pub only : List ℕ → List ℕ → Bool
-only letters [] = true
-only letters (c ∷ rest) = ltb (index_of c letters) (length letters) && only letters rest
+only letters s = list_all (λ c. ltb (index_of c letters) (length letters)) s
 
 -- a number from low to high
 abbrev pub ranges : ℕ → ℕ → List ℕ → Bool
@@ -77,9 +79,9 @@ abbrev pub well_formed : List ℕ → Bool
 well_formed s =
     leb (length s) 8192 && (eqb (end s) (length s) && (is_settings (settings_line s) && (is_image (image_line s) && only events (events_line s))))
 
-abbrev pub malformed : Script
-malformed =
-    record { memory = 0; image_at = 0; image_length = 0; events_at = 0; events_length = 0; segment_size = 0; repeats = 0; refusal = 10 }
+-- refusal 10
+abbrev pub malformed : Result Script Refusal
+malformed = Err Setting
 
 -- what the input says: its numbers, and where the image's digits and the letters stand
 abbrev pub said : List ℕ → Script
@@ -92,8 +94,7 @@ said s =
       events_length = index_of 10 (drop (events_at s) s);
       segment_size = value 0 (size (settings_line s));
       repeats = value 0 (repeats (settings_line s));
-      refusal = 0;
     }
 
-abbrev pub checked : List ℕ → Script
-checked s = pick (well_formed s) (said s) malformed
+abbrev pub checked : List ℕ → Result Script Refusal
+checked s = pick (well_formed s) (Ok (said s)) malformed

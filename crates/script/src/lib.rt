@@ -1,12 +1,15 @@
 // The rehearsal program's input: its check, and where its parts stand (PROTOCOL 8, 'Rehearsal').
 #![tactic(auto)]
 
-ghost use Rattle.std.specs.Prelude.{◌≡◌, ◌+◌, ◌≤◌, ◌<◌, length, drop};
+ghost use Rattle.std.specs.Prelude.{◌≡◌, ◌+◌, ◌≤◌, ◌<◌, length, drop, ltb};
 ghost use Rattle.text.specs.Find.{index_of};
-ghost use Rattle.script.specs.Script.{only, malformed, checked};
-ghost use Rattle.script.specs.Inner.{number, settings, unsettled};
+ghost use Rattle.script.specs.Script.{only, checked};
+ghost use Rattle.script.specs.Inner.{number, settings, parts};
 
-// What the three lines say; a refusal (10) with all else 0.
+use refusal::Refusal;
+
+// What the three lines say. Their parts are places and lengths, as the definition `said` gives them, and no slices: a `Job`
+// keeps them when the input is lent no more.
 #[derive(Clone, Copy)]
 pub struct Script {
     pub memory: usize,
@@ -16,73 +19,56 @@ pub struct Script {
     pub events_length: usize,
     pub segment_size: u32,
     pub repeats: u32,
-    pub refusal: u8,
 }
 
-// The first line's numbers, if it is three of them.
+// The first line's numbers.
 #[derive(Clone, Copy)]
 struct Numbers {
     memory: usize,
     size: u32,
     repeats: u32,
-    fine: bool,
 }
 
-// The place of the first b from a place on, or the end.
+// The place of the first b from a place on, or the end: `text::find`, said of the rest of the text, as the definitions here
+// are.
 fn find(s: &[u8], b: u8, from: usize) -> usize
     ensures { result ≡ from + index_of b (drop from s.now) }
 {
-    if s.len() < from {
-        return from;
-    }
     text::find(s, from, b)
 }
 
+// A character is one of the letters.
+fn is_letter(letters: &[u8], c: u8) -> bool
+    ensures { result ≡ ltb (index_of c letters.now) (length letters.now) }
+{
+    letters.contains(&c)
+}
+
 // Every character is one of the letters.
+#[tactic(auto, unfolding(crate::specs::Script::only))]
 fn only(letters: &[u8], s: &[u8]) -> bool
     ensures { result ≡ only letters.now s.now }
 {
-    let mut i = 0;
-    while i < s.len() {
-        if letters.len() <= find(letters, s[i], 0) {
-            return false;
-        }
-        i += 1;
-    }
-    true
+    s.iter().all(|c| is_letter(letters, *c))
 }
 
-// A number from low to high; 10,000 for anything else.
-fn number(s: &[u8], low: usize, high: usize) -> usize
-    requires { (low ≤ high) × (high < 10000) }
+// A number from low to high.
+fn number(s: &[u8], low: usize, high: usize) -> Option<usize>
+    requires { high < 10000 }
     ensures { result ≡ number low high s.now }
 {
     if !decimal::is_number(s) {
-        return 10000;
+        return None;
     }
     let n = decimal::value(s);
-    if n < low {
-        return 10000;
+    if n < low || high < n {
+        return None;
     }
-    if high < n {
-        return 10000;
-    }
-    n
-}
-
-fn unsettled() -> Numbers
-    ensures { result ≡ unsettled }
-{
-    Numbers {
-        memory: 0,
-        size: 0,
-        repeats: 0,
-        fine: false,
-    }
+    Some(n)
 }
 
 // The first line: memory length, S and R, one space between.
-fn settings(line: &[u8]) -> Numbers
+fn settings(line: &[u8]) -> Option<Numbers>
     requires { length line.now ≤ 8192 }
     ensures { result ≡ settings line.now }
 {
@@ -91,49 +77,24 @@ fn settings(line: &[u8]) -> Numbers
     let second = find(line, b' ', second_at);
     let third_at = second + 1;
     if line.len() < third_at {
-        return unsettled();
+        return None;
     }
-    let memory = number(&line[..first], 1, 4096);
-    if 9999 < memory {
-        return unsettled();
-    }
-    let size = number(&line[second_at..second], 1, 1490);
-    if 9999 < size {
-        return unsettled();
-    }
-    let repeats = number(&line[third_at..], 0, 255);
-    if 9999 < repeats {
-        return unsettled();
-    }
-    Numbers {
+    let memory = number(&line[..first], 1, 4096)?;
+    let size = number(&line[second_at..second], 1, 1490)?;
+    let repeats = number(&line[third_at..], 0, 255)?;
+    Some(Numbers {
         memory,
         size: size as u32,
         repeats: repeats as u32,
-        fine: true,
-    }
-}
-
-fn malformed() -> Script
-    ensures { result ≡ malformed }
-{
-    Script {
-        memory: 0,
-        image_at: 0,
-        image_length: 0,
-        events_at: 0,
-        events_length: 0,
-        segment_size: 0,
-        repeats: 0,
-        refusal: 10,
-    }
+    })
 }
 
 // What an input of three lines says.
-pub fn check(input: &[u8]) -> Script
-    ensures { result ≡ checked input.now }
+fn parts(input: &[u8]) -> Option<Script>
+    ensures { result ≡ parts input.now }
 {
     if 8192 < input.len() {
-        return malformed();
+        return None;
     }
     let first = find(input, b'\n', 0);
     let image_at = first + 1;
@@ -141,19 +102,16 @@ pub fn check(input: &[u8]) -> Script
     let events_at = second + 1;
     let third = find(input, b'\n', events_at);
     if third + 1 != input.len() {
-        return malformed();
+        return None;
     }
-    let line = settings(&input[..first]);
-    if !line.fine {
-        return malformed();
-    }
+    let line = settings(&input[..first])?;
     if !hexadecimal::is_hexadecimal(&input[image_at..second]) {
-        return malformed();
+        return None;
     }
     if !only(b"hkxtuymn", &input[events_at..third]) {
-        return malformed();
+        return None;
     }
-    Script {
+    Some(Script {
         memory: line.memory,
         image_at,
         image_length: second - image_at,
@@ -161,6 +119,12 @@ pub fn check(input: &[u8]) -> Script
         events_length: third - events_at,
         segment_size: line.size,
         repeats: line.repeats,
-        refusal: 0,
-    }
+    })
+}
+
+// The same, or `Refusal::Setting` for any other input.
+pub fn check(input: &[u8]) -> Result<Script, Refusal>
+    ensures { result ≡ checked input.now }
+{
+    parts(input).ok_or(Refusal::Setting)
 }

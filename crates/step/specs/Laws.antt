@@ -10,6 +10,9 @@ use Rattle.message.specs.Message.{Message}
 use Rattle.message.specs.Read.{fields}
 use Rattle.message.specs.Write.{layout, listed, write, sent}
 use Rattle.message.specs.Laws.{write-sent}
+use Rattle.refusal.specs.declared.Refusal.{Refusal}
+use Rattle.refusal.specs.Refusal.{number}
+use Rattle.refusal.specs.Laws.{some}
 use Rattle.step.specs.Step.{sends, Act, unless, first, acts, gives, call, frame_call, Leaves}
 
 -- ---- refusals
@@ -56,6 +59,10 @@ module _ {H B : Type 0} where
     pub call-refused : (act : Act H B) → (n ≡ 0 → ⊥) → Leaves (call n end lent reply act) end (refused n) lent reply
     call-refused act e = rw (ne_eqb n 0 e) (refl, refl, refl, refl)
 
+    -- the same by the refusal's number
+    pub call-denied : (act : Act H B) (r : Refusal) → number r ≡ n → Leaves (call n end lent reply act) end (refused (number r)) lent reply
+    call-denied act r e = rw e (call-refused act (λ z. omega (arith, some r)))
+
     pub call-accepted : (act : Act H B) {end' : H} {answer : Written} {lent' : B} {reply' : List ℕ} → n ≡ 0 → Leaves (gives act reply) end' answer lent' reply'
         → Leaves (call n end lent reply act) end' answer lent' reply'
     call-accepted act e l = rw (eq-eqb n 0 e) l
@@ -65,12 +72,19 @@ module _ {H B : Type 0} where
     pub frame-call-refused : (n ≡ 0 → ⊥) → Leaves (frame_call version n frame end lent reply react) end (refused n) lent reply
     frame-call-refused e = rw (decided n ((fields version frame).refusal ∷ []) e, ne_eqb n 0 e) (refl, refl, refl, refl)
 
+    pub frame-call-denied : (r : Refusal) → number r ≡ n → Leaves (frame_call version n frame end lent reply react) end (refused (number r)) lent reply
+    frame-call-denied r e = rw e (frame-call-refused (λ z. omega (arith, some r)))
+
     module _ (z : n ≡ 0) where
       own : first (n ∷ (fields version frame).refusal ∷ []) ≡ (fields version frame).refusal
       own = passed n ((fields version frame).refusal ∷ []) z ∙ last (fields version frame).refusal
 
       pub frame_refused : ((fields version frame).refusal ≡ 0 → ⊥) → Leaves (frame_call version n frame end lent reply react) end (refused (fields version frame).refusal) lent reply
       frame_refused e = rw (own, ne_eqb (fields version frame).refusal 0 e) (refl, refl, refl, refl)
+
+      pub frame_denied : (r : Refusal) → number r ≡ (fields version frame).refusal
+          → Leaves (frame_call version n frame end lent reply react) end (refused (number r)) lent reply
+      frame_denied r e = rw e (frame_refused (λ w. omega (arith, some r)))
 
       pub frame-accepted : {end' : H} {answer : Written} {lent' : B} {reply' : List ℕ} → (fields version frame).refusal ≡ 0
           → Leaves (gives (react (fields version frame)) reply) end' answer lent' reply' → Leaves (frame_call version n frame end lent reply react) end' answer lent' reply'

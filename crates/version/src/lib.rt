@@ -1,4 +1,5 @@
-// The versions of the protocol, by their numbers (PROTOCOL, at its beginning).
+// The versions of the protocol, by their numbers (PROTOCOL, at its beginning). A version is a number and no enum,
+// since C gives it in a struct and may give any.
 #![tactic(auto)]
 
 ghost use Rattle.std.specs.Prelude.{◌≡◌};
@@ -21,7 +22,7 @@ pub fn older(version: u8) -> bool
 pub fn known(version: u8) -> bool
     ensures { result ≡ known version }
 {
-    version == V2_1 || version == V3_0
+    matches!(version, V2_1 | V3_0)
 }
 
 // A number that version 2.1 has otherwise.
@@ -29,7 +30,8 @@ pub fn by_version(version: u8, under_older: u8, otherwise: u8) -> u8
     ensures { result ≡ by_version version under_older otherwise }
 {
     if older(version) {
-        return under_older;
+        under_older
+    } else {
+        otherwise
     }
-    otherwise
 }

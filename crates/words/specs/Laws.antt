@@ -1,5 +1,5 @@
 -- A phrase with its numbers is short.
-use Rattle.std.specs.Prelude.{ℕ, ◌+◌, ◌≤◌, ◌≡◌, refl, true, List, [], ◌∷◌, ◌++◌, length}
+use Rattle.std.specs.Prelude.{ℕ, ◌≤◌, ◌≡◌, refl, true, List, [], length}
 use Rattle.std.proofs.Common.{arith, length-append, le-ltb}
 use Rattle.text.specs.Find.{index_of}
 use Rattle.buffer.specs.declared.Written.{Written}

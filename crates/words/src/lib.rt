@@ -2,17 +2,19 @@
 #![tactic(auto)]
 
 ghost use Rattle.std.specs.Prelude.{◌≡◌, cond};
-ghost use Rattle.buffer.specs.Lay.{Came};
+ghost use Rattle.buffer.specs.Lay.{Came, written_of};
 ghost use Rattle.text.specs.Text.{placed};
 ghost use Rattle.words.specs.Words.{phrase, frame_row, frame_words, line_row, machine_row, host_row, refusal_row, report_row, further, report_words, spoken};
 
-use buffer::Written;
 use message::Fields;
+use pattern::Source;
+use refusal::Refusal;
 
 // A frame for which there is no place.
 pub const FULL: usize = 13;
 
-// A phrase by its row, and the numbers that it can name.
+// A phrase by its row, and the numbers that it can name. A row is a number and no enum: those of verdicts are counted on
+// from the first of them, and 33 names would say again what the phrases say.
 #[derive(Clone, Copy)]
 pub struct Words {
     pub row: usize,
@@ -26,7 +28,7 @@ pub fn phrase(row: usize) -> Words
     Words { row, v: [0; 5] }
 }
 
-// One of two rows.
+// One of two rows. (`parameters::later` is one of two slices, another type; a generic one would be no plainer than either.)
 pub fn either(test: bool, a: usize, b: usize) -> usize
     ensures { result ≡ cond test a b }
 {
@@ -50,12 +52,11 @@ fn frame_row(code: u8, error: u8, started: bool, again: bool) -> usize
 pub fn frame(f: Fields, started: bool, transfer: u32, again: bool) -> Words
     ensures { result ≡ frame_words f started transfer again }
 {
-    let number = f.number as usize;
     Words {
         row: frame_row(f.code, f.error, started, again),
         v: [
-            (number + 255) % 256,
-            number,
+            usize::from(f.number.wrapping_sub(1)),
+            usize::from(f.number),
             f.data_length,
             f.address as usize,
             transfer as usize,
@@ -77,17 +78,17 @@ pub fn machine(timer: bool) -> usize
     if timer { 15 } else { 14 }
 }
 
-// The host sends nothing; its verdict before and after.
+// The host sends nothing; its verdict before and after, numbers, since C's record may hold any, and each has a row.
 pub fn host(timer: bool, verdict: u8, next: u8) -> usize
     ensures { result ≡ host_row timer verdict next }
 {
     if verdict == next {
         return either(timer, 17, 16);
     }
-    17 + octets::lesser(next as u64, 4) as usize
+    17 + usize::from(next.min(4))
 }
 
-// A refusal.
+// A refusal. It takes a number and no `Refusal`, since it promises a row for each number.
 pub fn refusal(refusal: u8) -> usize
     ensures { result ≡ refusal_row refusal }
 {
@@ -100,21 +101,21 @@ pub fn refusal(refusal: u8) -> usize
     }
 }
 
-// The row of what a record means of the machine.
+// The row of what a record means of the machine; the verdict is a number as above.
 fn report_row(waiting: bool, verdict: u8) -> usize
     ensures { result ≡ report_row waiting verdict }
 {
     if waiting {
         return 27;
     }
-    28 + octets::lesser(verdict as u64, 4) as usize
+    28 + usize::from(verdict.min(4))
 }
 
 // One segment more, where there is one.
 fn further(c: u64, n: u64) -> u64
     ensures { result ≡ further c n }
 {
-    if c < n { c + 1 } else { n }
+    c.saturating_add(1).min(n)
 }
 
 // What a record means of the machine: c segments are answered of n, `sent` frames are sent; the machine's transfer address.
@@ -133,12 +134,11 @@ pub fn report(waiting: bool, verdict: u8, c: u64, n: u64, sent: u64, transfer: u
     }
 }
 
-// A phrase and its numbers, with a line feed. Refusal 9 for a buffer that is too short.
-pub fn said(w: Words, out: &mut [u8]) -> Written
-    ensures { Came (placed (spoken w) out.old) result out.new }
+// A phrase and its numbers, with a line feed. `Refusal::Buffer` for a buffer that is too short. The function is as long as
+// its table, a row a line.
+pub fn said(w: Words, out: &mut [u8]) -> Result<usize, Refusal>
+    ensures { Came (placed (spoken w) out.old) (written_of result) out.new }
 {
-    let none = [0u8; 0];
-    let v = w.v;
     let table = b"the machine asks for its program\n\
         the machine has segment number #a and asks for number #b\n\
         the machine has the last segment and starts at @e\n\
@@ -172,5 +172,10 @@ pub fn said(w: Words, out: &mut [u8]) -> Written
         The machine rejected a segment: of #a it holds exactly the first #b and was not started. Frames sent: #d.\n\
         The host gave up: of #a segments the machine holds the first #b or the first #c and was not started. Frames sent: #d.\n\
         Unconfirmed: the machine holds all #a segments and was started, or all but the last and was not. Frames sent: #d.\n";
-    pattern::sentence(table, w.row, &v, &none, &none, b"\n", out)
+    let source = Source {
+        table,
+        bytes: b"",
+        numbers: &w.v,
+    };
+    source.sentence(w.row, b"", b"\n", out)
 }

@@ -1,16 +1,17 @@
 // Writing frames (PROTOCOL 2, 'Messages'): a writer for each code but 8 and 20, into a lent buffer.
-// Each answers the frame's length, or 2, then 9; the buffer behind the frame stays, and a refusal leaves it all.
-#![tactic(auto)]
+// Each answers the frame's length, or `Refusal::Long`, then `Refusal::Buffer`; the buffer behind the frame stays, and a
+// refusal leaves it all. A frame's fields come one by one, as C gives them (include/mop.h).
+#![tactic(auto, unfolding(message::specs::Write::write, message::specs::Write::layout))]
 
 ghost use Rattle.std.specs.Prelude.{◌≡◌, ℕ, [], ◌∷◌, ◌++◌};
 ghost use Rattle.octets.specs.Number.{low};
-ghost use Rattle.buffer.specs.Lay.{Came, laid};
+ghost use Rattle.buffer.specs.Lay.{Came, laid, written_of};
 ghost use Rattle.message.specs.Message.{memory_load_transfer, memory_load, request_load, request_dump, request_dump_service, dump_data, dump_complete, volunteer, loop_data, looped_data};
 ghost use Rattle.message.specs.Write.{write};
 
-use buffer::Written;
+use refusal::Refusal;
 
-// The head of codes 4 and 14: the code and an address.
+// The head of codes 4 and 14: the code and an address. A code is a number here and below: it is the byte that is laid.
 fn addressed(code: u8, address: u32) -> [u8; 5]
     ensures { result ≡ code ∷ low 4 address }
 {
@@ -18,7 +19,7 @@ fn addressed(code: u8, address: u32) -> [u8; 5]
     [code, a[0], a[1], a[2], a[3]]
 }
 
-// The head of codes 0 and 2: the code, a number and an address.
+// The head of codes 0 and 2: the code, a number and an address. Made of the head above it would be spelled byte by byte too.
 fn numbered(code: u8, number: u8, address: u32) -> [u8; 6]
     ensures { result ≡ code ∷ number ∷ low 4 address }
 {
@@ -27,17 +28,15 @@ fn numbered(code: u8, number: u8, address: u32) -> [u8; 6]
 }
 
 // A frame of its code alone.
-fn alone(code: u8, out: &mut [u8]) -> Written
-    ensures { Came (laid (code ∷ []) out.old) result out.new }
+fn alone(code: u8, out: &mut [u8]) -> Result<usize, Refusal>
+    ensures { Came (laid (code ∷ []) out.old) (written_of result) out.new }
 {
-    let head = [code];
-    let none = [0u8; 0];
-    buffer::lay(&head, &none, out)
+    buffer::lay(&[code], &[], out)
 }
 
 // Codes 24 and 26.
-fn looping(code: u8, receipt: u16, bytes: &[u8], out: &mut [u8]) -> Written
-    ensures { Came (laid (code ∷ (low 2 receipt ++ bytes.now)) out.old) result out.new }
+fn looping(code: u8, receipt: u16, bytes: &[u8], out: &mut [u8]) -> Result<usize, Refusal>
+    ensures { Came (laid (code ∷ (low 2 receipt ++ bytes.now)) out.old) (written_of result) out.new }
 {
     let n = octets::low16(receipt);
     let head = [code, n[0], n[1]];
@@ -51,8 +50,8 @@ pub fn memory_load_transfer(
     bytes: &[u8],
     transfer: u32,
     out: &mut [u8],
-) -> Written
-    ensures { (version : ℕ) → Came (write version (memory_load_transfer number address bytes.now transfer) out.old) result out.new }
+) -> Result<usize, Refusal>
+    ensures { (version : ℕ) → Came (write version (memory_load_transfer number address bytes.now transfer) out.old) (written_of result) out.new }
 {
     let head = numbered(0, number, address);
     let tail = octets::low32(transfer);
@@ -60,25 +59,23 @@ pub fn memory_load_transfer(
 }
 
 // Code 2, memory load.
-pub fn memory_load(number: u8, address: u32, bytes: &[u8], out: &mut [u8]) -> Written
-    ensures { (version : ℕ) → Came (write version (memory_load number address bytes.now) out.old) result out.new }
+pub fn memory_load(number: u8, address: u32, bytes: &[u8], out: &mut [u8]) -> Result<usize, Refusal>
+    ensures { (version : ℕ) → Came (write version (memory_load number address bytes.now) out.old) (written_of result) out.new }
 {
     let head = numbered(2, number, address);
     buffer::lay(&head, bytes, out)
 }
 
 // Code 10, request memory load.
-pub fn request_load(number: u8, error: u8, out: &mut [u8]) -> Written
-    ensures { (version : ℕ) → Came (write version (request_load number error) out.old) result out.new }
+pub fn request_load(number: u8, error: u8, out: &mut [u8]) -> Result<usize, Refusal>
+    ensures { (version : ℕ) → Came (write version (request_load number error) out.old) (written_of result) out.new }
 {
-    let head = [10];
-    let body = [number, error];
-    buffer::lay(&head, &body, out)
+    buffer::lay(&[10, number, error], &[], out)
 }
 
 // Code 4, request memory dump.
-pub fn request_dump(address: u32, count: u16, out: &mut [u8]) -> Written
-    ensures { (version : ℕ) → Came (write version (request_dump address count) out.old) result out.new }
+pub fn request_dump(address: u32, count: u16, out: &mut [u8]) -> Result<usize, Refusal>
+    ensures { (version : ℕ) → Came (write version (request_dump address count) out.old) (written_of result) out.new }
 {
     let head = addressed(4, address);
     let body = octets::low16(count);
@@ -93,8 +90,8 @@ pub fn request_dump_service(
     compatibility: u8,
     info: &[u8],
     out: &mut [u8],
-) -> Written
-    ensures { (version : ℕ) → Came (write version (request_dump_service device format size compatibility info.now) out.old) result out.new }
+) -> Result<usize, Refusal>
+    ensures { (version : ℕ) → Came (write version (request_dump_service device format size compatibility info.now) out.old) (written_of result) out.new }
 {
     let n = octets::low32(size);
     let head = [12, device, format, n[0], n[1], n[2], n[3], compatibility];
@@ -102,37 +99,37 @@ pub fn request_dump_service(
 }
 
 // Code 14, memory dump data.
-pub fn dump_data(address: u32, bytes: &[u8], out: &mut [u8]) -> Written
-    ensures { (version : ℕ) → Came (write version (dump_data address bytes.now) out.old) result out.new }
+pub fn dump_data(address: u32, bytes: &[u8], out: &mut [u8]) -> Result<usize, Refusal>
+    ensures { (version : ℕ) → Came (write version (dump_data address bytes.now) out.old) (written_of result) out.new }
 {
     let head = addressed(14, address);
     buffer::lay(&head, bytes, out)
 }
 
 // Code 1, dump complete.
-pub fn dump_complete(out: &mut [u8]) -> Written
-    ensures { (version : ℕ) → Came (write version dump_complete out.old) result out.new }
+pub fn dump_complete(out: &mut [u8]) -> Result<usize, Refusal>
+    ensures { (version : ℕ) → Came (write version dump_complete out.old) (written_of result) out.new }
 {
     alone(1, out)
 }
 
 // Code 3, assistance volunteer.
-pub fn volunteer(out: &mut [u8]) -> Written
-    ensures { (version : ℕ) → Came (write version volunteer out.old) result out.new }
+pub fn volunteer(out: &mut [u8]) -> Result<usize, Refusal>
+    ensures { (version : ℕ) → Came (write version volunteer out.old) (written_of result) out.new }
 {
     alone(3, out)
 }
 
 // Code 24, loop data.
-pub fn loop_data(receipt: u16, bytes: &[u8], out: &mut [u8]) -> Written
-    ensures { (version : ℕ) → Came (write version (loop_data receipt bytes.now) out.old) result out.new }
+pub fn loop_data(receipt: u16, bytes: &[u8], out: &mut [u8]) -> Result<usize, Refusal>
+    ensures { (version : ℕ) → Came (write version (loop_data receipt bytes.now) out.old) (written_of result) out.new }
 {
     looping(24, receipt, bytes, out)
 }
 
 // Code 26, looped data.
-pub fn looped_data(receipt: u16, bytes: &[u8], out: &mut [u8]) -> Written
-    ensures { (version : ℕ) → Came (write version (looped_data receipt bytes.now) out.old) result out.new }
+pub fn looped_data(receipt: u16, bytes: &[u8], out: &mut [u8]) -> Result<usize, Refusal>
+    ensures { (version : ℕ) → Came (write version (looped_data receipt bytes.now) out.old) (written_of result) out.new }
 {
     looping(26, receipt, bytes, out)
 }

@@ -1,14 +1,15 @@
-// Writing the two frames whose fields must be listed, codes 8 and 20 (PROTOCOL 2, 'Messages'): 4, then 2, then 9, as the other writers.
-#![tactic(auto)]
+// Writing the two frames whose fields must be listed, codes 8 and 20 (PROTOCOL 2, 'Messages'): `Refusal::Field`, then as the
+// other writers. A frame's fields come one by one, as C gives them (include/mop.h).
+#![tactic(auto, unfolding(message::specs::Write::write, message::specs::Write::layout))]
 
 ghost use Rattle.std.specs.Prelude.{◌≡◌, ℕ, ◌&&◌, eqb};
-ghost use Rattle.buffer.specs.Lay.{Came};
+ghost use Rattle.buffer.specs.Lay.{Came, written_of};
 ghost use Rattle.message.specs.Message.{request_program, parameters, form_listed, id_length};
 ghost use Rattle.message.specs.Write.{entry_list, write};
 ghost use Rattle.writer_listed.specs.Inner.{whole};
 
-use buffer::Written;
 use entries_next::Place;
+use refusal::Refusal;
 
 // Code 8, request program. The id has exactly the length that the form says.
 pub fn request_program(
@@ -20,20 +21,11 @@ pub fn request_program(
     processor: u8,
     info: &[u8],
     out: &mut [u8],
-) -> Written
-    ensures { (version : ℕ) → Came (write version (request_program device format program form id.now processor info.now) out.old) result out.new }
+) -> Result<usize, Refusal>
+    ensures { (version : ℕ) → Came (write version (request_program device format program form id.now processor info.now) out.old) (written_of result) out.new }
 {
-    if 2 < program {
-        return Written {
-            length: 0,
-            refusal: 4,
-        };
-    }
-    if !id_fits(form, id.len()) {
-        return Written {
-            length: 0,
-            refusal: 4,
-        };
+    if 2 < program || !id_fits(form, id.len()) {
+        return Err(Refusal::Field);
     }
     let head = [8, device, format, program, form];
     let behind = [processor];
@@ -44,24 +36,25 @@ pub fn request_program(
 fn id_fits(form: u8, n: usize) -> bool
     ensures { result ≡ form_listed form && eqb n (id_length form) }
 {
-    if form <= 16 {
-        return n == form as usize;
+    match form {
+        0..=16 => n == usize::from(form),
+        254..=255 => n == 0,
+        _ => false,
     }
-    if form < 254 {
-        return false;
-    }
-    n == 0
 }
 
 // Code 20, parameter load with transfer, under a version. The entries come without their end mark.
-pub fn parameters(version: u8, number: u8, entries: &[u8], transfer: u32, out: &mut [u8]) -> Written
-    ensures { Came (write version (parameters number entries.now transfer) out.old) result out.new }
+pub fn parameters(
+    version: u8,
+    number: u8,
+    entries: &[u8],
+    transfer: u32,
+    out: &mut [u8],
+) -> Result<usize, Refusal>
+    ensures { Came (write version (parameters number entries.now transfer) out.old) (written_of result) out.new }
 {
     if !listed(version, entries) {
-        return Written {
-            length: 0,
-            refusal: 4,
-        };
+        return Err(Refusal::Field);
     }
     let t = octets::low32(transfer);
     let head = [20, number];
@@ -80,13 +73,5 @@ pub fn listed(version: u8, entries: &[u8]) -> bool
 fn whole(p: Place) -> bool
     ensures { result ≡ whole p }
 {
-    match p {
-        Place::Kind => true,
-        Place::Size(_) => false,
-        Place::Value(_) => false,
-        Place::Time(_, _) => false,
-        Place::Transfer(_) => false,
-        Place::Outside => false,
-        Place::Excess => false,
-    }
+    matches!(p, Place::Kind)
 }

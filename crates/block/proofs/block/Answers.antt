@@ -1,13 +1,12 @@
-use Prim.Native.Nat.{ℕ, ◌+◌, ◌-◌, ◌<◌, ◌≤◌}
+use Prim.Native.Nat.{ℕ, ◌+◌, ◌<◌}
 use native.Mathlib.Omega.{arith}
 use native.Mathlib.Decide.{dec_lt}
-use mathlib.Core.Path.{◌≡◌, refl, sym, ◌∙◌}
+use mathlib.Core.Path.{◌≡◌, sym, ◌∙◌}
 use mathlib.Core.List.{List}
-use lib.ListN.{length, get_or, set, length-set}
+use lib.ListN.{length, set}
 use lib.Seq.{get_or-set_same, get_or-set_other, ext_get_or}
-use borrow.Author.Rules.{rules}
 use Rattle.parameters.specs.declared.Parameters.{Parameters}
-use Rattle.block.specs.Block.{place, cell, over, block_byte, block}
+use Rattle.block.specs.Block.{block_byte, block}
 use Rattle.block.specs.Laws.{length-block, get_or-block}
 use Rattle.block.proofs.block.Invariants.{Done}
 use Rattle.block.proofs.block.Goals as goal
@@ -24,5 +23,5 @@ returns c = let l = c.loop-x in
     let a = c.args in
     let p = a.parameters in
     let memory = a.memory.now in
-    ext_get_or 0 l.bytes (block p memory) (omega (arith, l.invariant.1, length-block p memory)) (λ i h.
-    l.invariant.2 i (omega (arith, l.invariant.1, c.loop-x-test.false)) ∙ sym (get_or-block p memory i (omega (arith, l.invariant.1))))
+    ext_get_or 0 l.b-items (block p memory) (omega (arith, l.invariant.0, length-block p memory)) (λ i h.
+    l.invariant.1 i (omega (arith, l.invariant.0, c.loop-x-test.false)) ∙ sym (get_or-block p memory i (omega (arith, l.invariant.0))))

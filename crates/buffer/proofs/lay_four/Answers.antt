@@ -1,7 +1,5 @@
-use borrow.Author.Rules.{rules}
-use mathlib.Core.List.{◌++◌}
 use native.Mathlib.Omega.{arith}
-use Rattle.buffer.specs.LayLaws.{length-joined, laid-over, laid-short, laid-four}
+use Rattle.buffer.specs.LayLaws.{laid-four}
 use Rattle.buffer.proofs.lay_four.Goals as goal
 
 pub returns : goal.returns

@@ -1,4 +1,3 @@
-use borrow.Author.Rules.{rules}
 use Prim.Native.Nat.{ℕ}
 use native.Mathlib.Omega.{arith}
 use Rattle.message.specs.Read.{rows, find}
@@ -12,4 +11,4 @@ returns-then-code-gt26 c = rw (none_above rows 26 c.args.code tt c.if-code-gt26.
 
 pub returns : goal.returns
 unfolding find
-returns c = table-entry (λ (code : ℕ). marked (find rows code)) 0 27 c.args.code (omega arith)
+returns c = rw c.from.ensures (table-entry (λ (code : ℕ). marked (find rows code)) 0 27 c.args.code (omega arith))

@@ -1,4 +1,3 @@
-use borrow.Author.Rules.{rules}
 use mathlib.Core.Path.{refl}
 use native.Mathlib.Omega.{arith}
 use Rattle.octets.specs.Number.{low}
@@ -12,4 +11,4 @@ pub returns : goal.returns
 unfolding layout low
 returns c = let a = c.args in
     let asks = request_dump (place a.s a.h) (asked a.s a.h) in
-    sent_by 0 asks a.reply.now refl (omega arith) (omega arith) (rw c.asked-count.ensures at (c.request_dump.ensures 0))
+    sent_by 0 asks a.reply.now refl (omega arith) (omega arith) (rw (c.from.ensures, c.asked-count.ensures) at (c.request_dump.ensures 0))

@@ -1,16 +1,11 @@
-use Prim.Native.Nat.{◌-◌}
-use native.Mathlib.Omega.{arith}
-use mathlib.Core.Path.{◌≡◌, refl, sym, ap, ◌∙◌}
-use borrow.Author.Rules.{rules}
-use lib.ListN.{length, drop, drop_of_length-le}
+use mathlib.Core.Path.{◌≡◌}
+use lib.ListN.{drop, length}
 use Rattle.entries_next.specs.declared.Place.TheVariants.{Kind}
-use Rattle.entries_next.specs.Next.{next}
 use Rattle.entries.specs.Entries.{walk}
-use Rattle.entries.specs.Laws.{walk_at}
 use Rattle.entries.proofs.walk.Given as goal
 
-abbrev pub invariant-loop-i : goal.invariant-loop-i
-invariant-loop-i l = walk l.version Kind (drop l.i l.s) ≡ walk l.version Kind (drop l.from l.s)
+abbrev pub invariant-loop-left : goal.invariant-loop-left
+invariant-loop-left l = walk l.version Kind l.left ≡ walk l.version Kind (drop l.from l.s)
 
-abbrev pub decreases-loop-i : goal.decreases-loop-i
-decreases-loop-i l = length l.s - l.i
+abbrev pub decreases-loop-left : goal.decreases-loop-left
+decreases-loop-left l = length l.left

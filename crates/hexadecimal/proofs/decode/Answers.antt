@@ -1,10 +1,7 @@
 use mathlib.Core.Path.{sym, ap, ◌∙◌}
-use borrow.Author.Tests.{not-true, not-false}
 use Rattle.buffer.specs.Lay.{written}
 use Rattle.hexadecimal.specs.declared.Line.{Line}
-use Rattle.hexadecimal.specs.Hexadecimal.{hexadecimal}
-use Rattle.hexadecimal.specs.RunLaws.{decoded-not, decoded-short, decoded-whole}
-use borrow.Author.Rules.{rules}
+use Rattle.hexadecimal.specs.RunLaws.{decoded-short, decoded-whole}
 use Rattle.hexadecimal.proofs.decode.Goals as goal
 
 pub returns-then-out-s : goal.returns-then-out-s

@@ -3,7 +3,6 @@ use mathlib.Core.List.{[]}
 use mathlib.Core.Path.{ap, ◌∙◌}
 use Rattle.hexadecimal.specs.Line.{is_foul}
 use Rattle.hexadecimal.specs.RunLaws.{run_is}
-use borrow.Author.Rules.{rules}
 use Rattle.hexadecimal.proofs.is_hexadecimal.Goals as goal
 
 pub returns : goal.returns

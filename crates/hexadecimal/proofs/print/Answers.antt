@@ -1,7 +1,6 @@
 use mathlib.Core.Path.{sym, ◌∙◌}
 use borrow.Author.Tests.{ltb-true, ltb-false}
 use Rattle.hexadecimal.specs.Laws.{printed, not-printed}
-use borrow.Author.Rules.{rules}
 use Rattle.hexadecimal.proofs.print.Goals as goal
 
 pub returns-then-lacks : goal.returns-then-lacks

@@ -1,5 +1,4 @@
 use Rattle.listing.specs.Laws.{row_line}
-use borrow.Author.Rules.{rules}
 use Rattle.listing.proofs.line.Goals as goal
 
 pub returns : goal.returns

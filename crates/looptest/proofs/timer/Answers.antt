@@ -1,21 +1,17 @@
-use borrow.Author.Rules.{rules}
+use mathlib.Core.Path.{sym}
 use lib.ListN.{length}
 use native.Mathlib.Omega.{arith}
-use Rattle.step.specs.Laws.{call-refused}
-use Rattle.looptest_timer.specs.Timer.{on_timer}
 use Rattle.looptest_timer.specs.Laws.{timer_sent}
-use Rattle.looptest.specs.Loop.{does}
-use Rattle.looptest.specs.Laws.{Accepted, accepted, timer_waits, timer_again}
+use Rattle.looptest.specs.Laws.{accepted}
 use Rattle.looptest.proofs.timer.Goals as goal
 
-pub counted-requires : goal.counted-requires
-counted-requires c = let allowed : let a = c.args in Accepted a.session (length a.bytes.now) (length a.reply.now) = let a = c.args in
-    accepted a.settings a.session (length a.bytes.now) (length a.reply.now) (rw c.refusal-refusal.ensures at c.if-refusal-ne0.false) in
-    let sent = rw (← c.on_timer-next.ensures) at (timer_sent c.args.settings c.args.session) in
+pub overflow_add-session : goal.overflow_add-session
+overflow_add-session c = let a = c.args in
+    let allowed = accepted a.settings a.session.now (length a.bytes.now) (length a.reply.now) (sym c.in_ok-refusal.ensures) in
+    let sent = rw (← c.on_timer-next.ensures) at (timer_sent a.settings a.session.now) in
     omega (arith, allowed)
 
 pub goes_out-requires : goal.goes_out-requires
-goes_out-requires c = let allowed : let a = c.args in Accepted a.session (length a.bytes.now) (length a.reply.now) = let a = c.args in
-    accepted a.settings a.session (length a.bytes.now) (length a.reply.now) (rw c.refusal-refusal.ensures at c.if-refusal-ne0.false) in
-    let p = allowed in
-    (p.short, p.room)
+goes_out-requires c = let a = c.args in
+    let allowed = accepted a.settings a.session.now (length a.bytes.now) (length a.reply.now) (sym c.in_ok-refusal.ensures) in
+    (allowed.short, allowed.room)

@@ -5,7 +5,6 @@ use Rattle.octets.specs.Number.{low}
 use Rattle.message.specs.Message.{request_dump_service}
 use Rattle.message.specs.Write.{layout}
 use Rattle.step.specs.Laws.{sent_by}
-use borrow.Author.Rules.{rules}
 use Rattle.machine_timer.proofs.ask_dump.Goals as goal
 
 pub returns : goal.returns

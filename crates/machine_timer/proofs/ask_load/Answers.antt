@@ -4,7 +4,6 @@ use native.Mathlib.Omega.{arith}
 use Rattle.message.specs.Message.{request_program}
 use Rattle.message.specs.Write.{layout}
 use Rattle.step.specs.Laws.{sent_by}
-use borrow.Author.Rules.{rules}
 use Rattle.machine_timer.proofs.ask_load.Goals as goal
 
 pub returns : goal.returns

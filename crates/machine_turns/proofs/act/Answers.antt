@@ -1,4 +1,3 @@
-use borrow.Author.Rules.{rules}
 use Rattle.machine_turns.proofs.act.Goals as goal
 
 pub returns-then-timer : goal.returns-then-timer

@@ -1,9 +1,8 @@
 use Prim.Native.Nat.{◌+◌}
-use mathlib.Core.Path.{refl, sym, ◌∙◌}
+use mathlib.Core.Path.{sym, ◌∙◌}
 use lib.ListN.{length}
-use borrow.Author.Tests.{le-leb, not-true, not-false}
+use borrow.Author.Tests.{le-leb}
 use Rattle.memory.specs.Laws.{fits-inside}
-use borrow.Author.Rules.{rules}
 use Rattle.memory.proofs.deposit.Goals as goal
 
 pub returns : goal.returns

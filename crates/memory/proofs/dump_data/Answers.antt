@@ -7,7 +7,6 @@ use Rattle.message.specs.Message.{dump_data}
 use Rattle.message.specs.Write.{layout}
 use Rattle.message.specs.Laws.{wrote}
 use Rattle.memory.specs.Memory.{bytes_from}
-use borrow.Author.Rules.{rules}
 use Rattle.memory.proofs.dump_data.Goals as goal
 
 pub returns : goal.returns

@@ -5,7 +5,6 @@ use lib.ListN.{length-append}
 use Rattle.buffer.specs.LayLaws.{laid-over}
 use Rattle.memory.specs.Memory.{bytes_from}
 use Rattle.memory.specs.Laws.{length-bytes_from, bytes_from-inside}
-use borrow.Author.Rules.{rules}
 use Rattle.memory.proofs.lay.Goals as goal
 
 pub returns-then-n-gt1500 : goal.returns-then-n-gt1500

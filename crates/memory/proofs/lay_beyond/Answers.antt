@@ -1,12 +1,8 @@
-use Prim.Native.Nat.{ℕ}
-use mathlib.Core.Path.{◌≡◌, ap, ◌∙◌}
 use native.Mathlib.Omega.{arith}
-use lib.ListN.{length, length-take, length-replicate}
 use Rattle.memory.specs.Laws.{bytes_from-beyond}
-use borrow.Author.Rules.{rules}
 use Rattle.memory.proofs.lay_beyond.Goals as goal
 
 pub returns : goal.returns
 returns c = let a = c.args in
-    let joined = bytes_from-beyond a.memory.now a.address a.n c.lesser-at.result 1500 c.zeros-zeros.result c.lesser-at.ensures c.zeros-zeros.ensures c.requires.n_bound (omega arith) in
+    let joined = bytes_from-beyond a.memory.now a.address a.n c.min-at.result 1500 c.zeros-zeros.result c.min-at.ensures c.zeros-zeros.ensures c.requires.n_bound (omega arith) in
     rw joined at c.lay_three.ensures

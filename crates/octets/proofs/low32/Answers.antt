@@ -1,8 +1,6 @@
-use borrow.Author.Rules.{rules}
-use mathlib.Core.Path.{refl}
-use Rattle.octets.specs.Number.{low}
+use Rattle.std.proofs.Common.{◌∙◌}
+use Rattle.octets.specs.NumberLaws.{low_std}
 use Rattle.octets.proofs.low32.Goals as goal
 
 pub returns : goal.returns
-unfolding low
-returns c = refl
+returns c = c.to_le_bytes.ensures ∙ low_std 4 c.args.x

@@ -1,16 +1,9 @@
-use borrow.Author.Rules.{rules}
-use native.Mathlib.Omega.{arith}
-use lib.ListN.{drop_of_length-le}
-use Rattle.octets.specs.Number.{number}
+use Rattle.std.proofs.Common.{get_or, ◌≡◌, add-zero, arith}
 use Rattle.octets.specs.NumberLaws.{number-two}
 use Rattle.octets.proofs.word16.Goals as goal
 
-pub returns-then-s-at : goal.returns-then-s-at
-unfolding number
-returns-then-s-at c = rw (drop_of_length-le c.args.s.now {i = c.args.at} (omega arith))
-
-pub returns-then-s-at-ge2 : goal.returns-then-s-at-ge2
-returns-then-s-at-ge2 c = omega (arith, number-two c.args.at c.args.s.now)
-
 pub returns : goal.returns
-returns c = omega (arith, number-two c.args.at c.args.s.now)
+returns c =
+    let a = c.args in let b = c.part.ensures in
+    let first : get_or c.part.result 0 0 ≡ get_or a.s.now a.at 0 = rw add-zero at (b 0 (omega arith)) in
+    omega (arith, number-two a.at a.s.now, first, b 1 (omega arith), c.from_le_bytes.ensures)

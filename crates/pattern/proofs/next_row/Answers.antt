@@ -1,6 +1,5 @@
 use native.Mathlib.Omega.{arith}
 use Rattle.pattern.specs.Laws.{behind_feed, behind-end}
-use borrow.Author.Rules.{rules}
 use Rattle.pattern.proofs.next_row.Goals as goal
 
 pub returns-then-feed-table : goal.returns-then-feed-table

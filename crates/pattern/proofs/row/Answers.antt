@@ -1,5 +1,4 @@
 use Rattle.pattern.specs.Laws.{row-found}
-use borrow.Author.Rules.{rules}
 use Rattle.pattern.proofs.row.Goals as goal
 
 pub returns : goal.returns

@@ -1,14 +1,16 @@
-use Prim.Native.Nat.{◌≤◌}
-use mathlib.Core.Path.{◌≡◌, refl, ap, ◌∙◌}
+use Prim.Native.Nat.{◌-◌, ◌+◌}
+use mathlib.Core.Path.{◌≡◌, ap, ◌∙◌}
 use native.Mathlib.Omega.{arith}
-use lib.ListN.{length, drop}
+use lib.ListN.{drop}
 use Rattle.pattern.specs.Pattern.{skip}
 use Rattle.pattern.specs.Laws.{skip_on, skip-done}
 use Rattle.pattern.proofs.row_at.Goals as goal
 
-pub loop-left-preserved : goal.loop-left-preserved
-loop-left-preserved c = let l = c.loop-left in
-    (c.next_row-at.ensures.0, ap (skip _) c.next_row-at.ensures.1 ∙ skip_on l.left (drop l.at c.args.table.now) c.loop-left-test.true ∙ l.invariant.1)
+pub loop-preserved : goal.loop-preserved
+loop-preserved c = let l = c.loop in
+    let k = c.args.k in
+    let e : k - (l.counter + 1) ≡ k - l.counter - 1 = omega arith in
+    (c.next_row-at.ensures.0, rw e (ap (skip _) c.next_row-at.ensures.1 ∙ skip_on (k - l.counter) (drop l.at c.args.table.now) (omega arith) ∙ l.invariant.1))
 
 pub returns : goal.returns
-returns c = (c.loop-left.invariant.0, skip-done c.loop-left.left (drop c.loop-left.at c.args.table.now) c.loop-left-test.false ∙ c.loop-left.invariant.1)
+returns c = (c.loop.invariant.0, skip-done (c.args.k - c.loop.counter) (drop c.loop.at c.args.table.now) (omega arith) ∙ c.loop.invariant.1)

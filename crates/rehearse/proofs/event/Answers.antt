@@ -1,7 +1,5 @@
-use mathlib.Core.Path.{refl}
 use Rattle.job.specs.Run.{run}
-use Rattle.rehearse.specs.Laws.{machine-event, host-event, no_turn}
-use borrow.Author.Rules.{rules}
+use Rattle.rehearse.specs.Laws.{host-event}
 use Rattle.rehearse.proofs.event.Goals as goal
 
 pub returns-then-host_sends : goal.returns-then-host_sends

@@ -1,12 +1,9 @@
 use Prim.Native.Nat.{◌-◌, ◌*◌}
-use mathlib.Core.Path.{sym}
 use native.Mathlib.Omega.{arith}
-use lib.Seq.{length-take-le}
-use Rattle.remarks.specs.Laws.{worded, beside-whole}
-use borrow.Author.Rules.{rules}
+use Rattle.remarks.specs.Laws.{worded_by, beside-whole}
 use Rattle.remarks.proofs.beside.Goals as goal
 
 pub returns : goal.returns
 returns c = let a = c.args in
-    beside-whole a.letter a.bytes.now a.w a.out.now c.lesser.result c.lesser.ensures _
-    (worded a.w (22 - 2 * c.lesser.result) (omega arith) c.said-speech.ensures).2 c.print.ensures
+    beside-whole a.letter a.bytes.now a.w a.out.now c.min.result c.min.ensures _
+    (worded_by a.w (22 - 2 * c.min.result) (omega arith) c.said.result c.unwrap_or.result c.unwrap_or.ensures c.said.ensures).2 c.print.ensures

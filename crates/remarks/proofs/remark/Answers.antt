@@ -1,8 +1,6 @@
-use mathlib.Core.Path.{ap, ◌∙◌}
-use Rattle.transcript.specs.Transcript.{initial}
-use Rattle.remarks.specs.Laws.{remark-silent, remark-sent}
-use borrow.Author.Rules.{rules}
+use Rattle.std.proofs.Common.{sym, ◌∙◌, eqb-true}
+use Rattle.remarks.specs.Laws.{remark-silent}
 use Rattle.remarks.proofs.remark.Goals as goal
 
-pub returns-then-frame-eq0 : goal.returns-then-frame-eq0
-returns-then-frame-eq0 c = let a = c.args in remark-silent a.letter a.before a.after a.frame.now a.out.now c.if-frame-eq0.true c.silent_row.ensures c.noted.ensures
+pub returns-then-is_empty : goal.returns-then-is_empty
+returns-then-is_empty c = let a = c.args in remark-silent a.letter a.before a.after a.frame.now a.out.now (eqb-true _ 0 (sym c.is_empty.ensures ∙ c.if-is_empty.true)) c.silent_row.ensures c.noted.ensures

@@ -1,17 +1,25 @@
-use Rattle.std.proofs.Common.{arith, ◌∙◌, sym}
-use Rattle.text.specs.FindLaws.{index_here, index_on, index_end, slice_on}
+use Rattle.std.proofs.Common.{◌≡◌, arith, sym, length, drop, ◌-◌, length-drop, take_all}
+use Rattle.text.specs.FindLaws.{index_end, index-Some, index-None, slice_on}
 use Rattle.text.proofs.find.Goals as goal
 
-pub returns-then-s-at : goal.returns-then-s-at
-returns-then-s-at c =
-    rw (slice_on c.args.s.now c.args.from)
-    (omega (arith, c.loop-at.invariant.0, index_here c.args.b c.args.s.now c.loop-at.at c.loop-at-test.true c.if-s-at.true), c.loop-at.invariant.1)
+pub returns-then-s-from : goal.returns-then-s-from
+returns-then-s-from c =
+    let a = c.args in
+    rw (slice_on a.s.now a.from) (omega (arith, index_end a.b a.s.now a.from c.if-s-from.true), λ h. h)
 
-pub loop-at-preserved : goal.loop-at-preserved
-loop-at-preserved c =
-    (omega (arith, c.loop-at.invariant.0, index_on c.args.b c.args.s.now c.loop-at.at c.loop-at-test.true c.if-s-at.false), λ h. omega arith)
+pub returns-in-Some : goal.returns-in-Some
+returns-in-Some c =
+    let a = c.args in
+    let t = drop a.from a.s.now in
+    let n : length t ≡ length a.s.now - a.from = length-drop a.from a.s.now in
+    let e = rw (take_all (length a.s.now - a.from) t (omega arith)) at c.in-Some.ensures in
+    let f = index-Some a.b t c.in-Some.i (sym e) in
+    rw (slice_on a.s.now a.from) (omega (arith, f.0), λ h. omega (arith, f.1))
 
-pub returns : goal.returns
-returns c =
-    rw (slice_on c.args.s.now c.args.from)
-    (omega (arith, c.loop-at.invariant.0, index_end c.args.b c.args.s.now c.loop-at.at c.loop-at-test.false), c.loop-at.invariant.1)
+pub returns-in-None : goal.returns-in-None
+returns-in-None c =
+    let a = c.args in
+    let t = drop a.from a.s.now in
+    let n : length t ≡ length a.s.now - a.from = length-drop a.from a.s.now in
+    let e = rw (take_all (length a.s.now - a.from) t (omega arith)) at c.in-None.ensures in
+    rw (slice_on a.s.now a.from) (omega (arith, index-None a.b t (sym e), c.if-s-from.false), λ h. omega arith)

@@ -1,5 +1,4 @@
-use Rattle.transcript.specs.Laws.{bad_none, bad_some}
-use borrow.Author.Rules.{rules}
+use Rattle.transcript.specs.Laws.{bad_some}
 use Rattle.transcript.proofs.bad.Goals as goal
 
 pub returns : goal.returns

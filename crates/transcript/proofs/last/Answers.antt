@@ -1,5 +1,4 @@
 use Rattle.transcript.specs.Laws.{last-whole}
-use borrow.Author.Rules.{rules}
 use Rattle.transcript.proofs.last.Goals as goal
 
 pub returns : goal.returns

@@ -1,6 +1,5 @@
 use Rattle.words.specs.Words.{phrases}
 use Rattle.words.specs.Laws.{spoken-filled}
-use borrow.Author.Rules.{rules}
 use Rattle.words.proofs.said.Goals as goal
 
 pub returns : goal.returns

@@ -1,4 +1,3 @@
-use borrow.Author.Rules.{rules}
 use mathlib.Core.Path.{ap, sym, ◌∙◌}
 use Rattle.writer_listed.specs.Inner.{whole}
 use Rattle.writer_listed.proofs.ByWalk.{listed_as}

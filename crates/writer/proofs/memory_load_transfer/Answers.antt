@@ -1,8 +1,0 @@
-use borrow.Author.Rules.{rules}
-use Rattle.message.specs.Write.{layout, write}
-use Rattle.writer.proofs.memory_load_transfer.Goals as goal
-
-pub returns : goal.returns
-unfolding write layout
-returns c = λ version.
-    rw c.numbered-head.ensures at (rw c.low32-tail.ensures at c.lay_three.ensures)

@@ -1,8 +1,0 @@
-use borrow.Author.Rules.{rules}
-use Rattle.message.specs.Write.{layout, write}
-use Rattle.writer.proofs.request_dump.Goals as goal
-
-pub returns : goal.returns
-unfolding write layout
-returns c = λ version.
-    rw c.addressed-head.ensures at (rw c.low16-body.ensures at c.lay.ensures)

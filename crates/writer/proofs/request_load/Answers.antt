@@ -1,7 +1,0 @@
-use borrow.Author.Rules.{rules}
-use Rattle.message.specs.Write.{layout, write}
-use Rattle.writer.proofs.request_load.Goals as goal
-
-pub returns : goal.returns
-unfolding write layout
-returns c = λ version. c.lay.ensures
