@@ -1,5 +1,5 @@
 //! The Rattle source of a crate: structs and enums, and the contracts of its
-//! public functions.
+//! public functions, methods and traits.
 
 use crate::specs::{File, import};
 use crate::words::{Word, words};
@@ -13,14 +13,18 @@ pub struct Struct {
     pub cases: bool,
     /// The words of its body.
     pub body: Vec<Word>,
+    /// What its ghost fields say, each a group in braces.
+    pub ghosts: Vec<Word>,
 }
 
-/// A public function.
+/// A public function, or what an `impl` or a trait says by a ghost member.
 pub struct Function {
     /// Whether it is a call for C.
     pub exported: bool,
-    /// Its parameters and answer.
+    /// Its parameters and answer, and for a method the head of its `impl`.
     pub signature: Vec<Word>,
+    /// Its parameters that are types or constants, and what its `impl` or trait names.
+    pub generics: Vec<String>,
     /// Its `requires` and `ensures`, each a group in braces.
     pub contract: Vec<Word>,
 }
@@ -52,12 +56,119 @@ pub fn read(path: &str, text: &str) -> Result<Source, String> {
     let lines: Vec<&str> = text.lines().collect();
     for (i, line) in lines.iter().enumerate() {
         if is_function(line) {
-            source.functions.push(function(path, &lines, i)?);
+            source.functions.push(function(path, &lines, i, "")?);
+        } else if is_block(line) {
+            let block = whole(&lines, i);
+            if let Some((_, head)) = line.split_once("trait ") {
+                let name = head.split(['<', ':', ' ']).next().unwrap_or(head);
+                source
+                    .structs
+                    .insert(name.to_string(), of_trait(i, block.len()));
+            }
+            members(&mut source, &block)?;
         } else {
             item(&mut source, &lines, i)?;
         }
     }
     Ok(source)
+}
+
+/// A trait: what it says is its members'.
+fn of_trait(at: usize, lines: usize) -> Struct {
+    Struct {
+        line: at + 1,
+        lines,
+        cases: true,
+        body: Vec::new(),
+        ghosts: Vec::new(),
+    }
+}
+
+/// Whether an `impl` or a trait begins at a line.
+fn is_block(line: &str) -> bool {
+    let plain = line.trim_start_matches("pub ");
+    ["impl ", "impl<", "trait "]
+        .iter()
+        .any(|first| plain.starts_with(first))
+}
+
+/// What an `impl` or a trait says: its ghost members, its public methods, and all methods of a trait.
+fn members(source: &mut Source, block: &[(usize, &str)]) -> Result<(), String> {
+    let first = block[0].0;
+    let head = block[0].1.trim_end_matches('{');
+    let every = !head.starts_with("impl") || head.contains(" for ");
+    // as if they stood at the margin; comments stay out, and a line keeps its number
+    let last = block.last().map_or(first, |(number, _)| *number);
+    let mut lines = vec![""; last];
+    for (number, line) in &block[1..] {
+        lines[number - 1] = line.strip_prefix("    ").unwrap_or("");
+    }
+    let path = source.path.clone();
+    let mut functions = Vec::new();
+    let mut bound = vec!["Self".to_string()];
+    for at in first..last {
+        let line = lines[at];
+        if is_function(line) || (every && line.starts_with("fn ")) {
+            functions.push(function(&path, &lines, at, head)?);
+        } else if let Some(ghost) = line.strip_prefix("ghost ") {
+            let name = ghost.split([':', ' ']).next().unwrap_or(ghost);
+            bound.push(name.to_string());
+            functions.push(Function {
+                exported: false,
+                signature: words(&[(at + 1, head)]),
+                generics: generics(head),
+                contract: ghosts(&lines, at),
+            });
+        }
+    }
+    // a member may name the block's type and its ghost members
+    for mut function in functions {
+        function.generics.extend(bound.clone());
+        source.functions.push(function);
+    }
+    Ok(())
+}
+
+/// What stands in braces behind `ghost NAME`, up to the line that ends it.
+fn ghosts(lines: &[&str], at: usize) -> Vec<Word> {
+    let part = part(lines, at, |line| line.ends_with([';', ',']));
+    let said = words(&part);
+    let from = said.iter().position(|word| word.text == "{");
+    let to = said.iter().rposition(|word| word.text == "}");
+    match (from, to) {
+        (Some(from), Some(to)) => said[from..=to].to_vec(),
+        _ => Vec::new(),
+    }
+}
+
+/// The names that a head declares in angle brackets: types and constants, no lifetimes.
+fn generics(head: &str) -> Vec<String> {
+    let from = head
+        .find(['<', '(', '{'])
+        .filter(|at| head[*at..].starts_with('<'));
+    let Some(from) = from else {
+        return Vec::new();
+    };
+    let mut depth = 0;
+    let mut declared = vec![String::new()];
+    for c in head[from..].chars() {
+        match c {
+            '<' => depth += 1,
+            '>' => depth -= 1,
+            ',' if depth == 1 => declared.push(String::new()),
+            _ => declared.last_mut().unwrap_or(&mut String::new()).push(c),
+        }
+        if depth == 0 {
+            break;
+        }
+    }
+    let names = declared
+        .iter()
+        .map(|one| one.trim().trim_start_matches("const "));
+    let names = names.map(|one| one.split([':', ' ']).next().unwrap_or(one).to_string());
+    names
+        .filter(|name| !name.is_empty() && !name.starts_with('\''))
+        .collect()
 }
 
 /// What begins at a line, if it is no public function. What is not known might have a contract.
@@ -75,13 +186,23 @@ fn item(source: &mut Source, lines: &[&str], at: usize) -> Result<(), String> {
             .ok_or(not_understood(&source.path, at))?;
         source.used.extend(names(used));
     } else if let Some(head) = kind {
-        let name = head.split([' ', '(', '{']).next().unwrap_or(head);
+        let name = head.split([' ', '(', '{', '<']).next().unwrap_or(head);
         let part = whole(lines, at);
+        let fields: Vec<_> = part[1..].to_vec();
+        let ghost = |line: &str| {
+            line.trim_start()
+                .trim_start_matches("pub ")
+                .starts_with("ghost ")
+        };
+        let said = fields.iter().filter(|(_, line)| ghost(line));
         let declared = Struct {
             line: at + 1,
             lines: part.len(),
             cases: plain.starts_with("enum "),
-            body: words(&part[1..]),
+            ghosts: said
+                .flat_map(|(number, _)| ghosts(lines, number - 1))
+                .collect(),
+            body: words(&fields),
         };
         source.structs.insert(name.to_string(), declared);
     } else if !is_inner(line) {
@@ -124,13 +245,23 @@ fn is_function(line: &str) -> bool {
     line.starts_with("pub fn ") || line.starts_with("pub extern \"C\" fn ")
 }
 
-fn function(path: &str, lines: &[&str], at: usize) -> Result<Function, String> {
-    let part = head(lines, at);
+fn function(path: &str, lines: &[&str], at: usize, block: &str) -> Result<Function, String> {
+    let part = head(lines, at, block.contains("trait "));
     let split = part.iter().position(|(_, line)| is_contract(line));
     let split = split.unwrap_or(part.len());
+    let mut signature = words(&[(at + 1, block)]);
+    signature.extend(words(&part[..split]));
+    let own = lines[at].split_once("fn ").map_or("", |(_, own)| own);
+    let mut declared = generics(
+        block
+            .trim_start_matches("impl")
+            .trim_start_matches("pub trait "),
+    );
+    declared.extend(generics(own));
     Ok(Function {
         exported: lines[at].starts_with("pub extern"),
-        signature: words(&part[..split]),
+        signature,
+        generics: declared,
         contract: groups(words(&part[split..])).ok_or(not_understood(path, at))?,
     })
 }
@@ -152,6 +283,8 @@ fn groups(contract: Vec<Word>) -> Option<Vec<Word>> {
         match word.text.as_str() {
             "{" => depth += 1,
             "}" => depth -= 1,
+            // behind the head of a trait's method
+            ";" if depth == 0 => {}
             _ if depth == 0 => before.push(word.text.clone()),
             _ => {}
         }
@@ -170,8 +303,11 @@ fn whole<'a>(lines: &[&'a str], from: usize) -> Vec<(usize, &'a str)> {
 }
 
 /// The lines of a function's head: its signature and its contract. The body's brace stands alone behind a
-/// contract, and at the end of a signature that has none.
-fn head<'a>(lines: &[&'a str], from: usize) -> Vec<(usize, &'a str)> {
+/// contract, and at the end of a signature that has none; a trait's method has none.
+fn head<'a>(lines: &[&'a str], from: usize, of_trait: bool) -> Vec<(usize, &'a str)> {
+    if of_trait {
+        return part(lines, from, |line| line.ends_with(';'));
+    }
     let contract = lines[from..].iter().position(|line| is_contract(line));
     let body = lines[from..]
         .iter()
@@ -201,11 +337,12 @@ fn part<'a>(lines: &[&'a str], from: usize, last: impl Fn(&str) -> bool) -> Vec<
 
 /// The types that words name, each with its crate if a path says it.
 pub fn types(words: &[Word]) -> Vec<(Option<String>, String)> {
-    let named = words.iter().filter_map(|word| {
-        let path = word.text.trim_start_matches('&');
+    let own = |c: char| !(c.is_alphanumeric() || c == '_' || c == ':');
+    let paths = words.iter().flat_map(|word| word.text.split(own));
+    let named = paths.filter_map(|path| {
         let (place, name) = match path.rsplit_once("::") {
             Some((place, name)) => (Some(place.to_string()), name),
-            None => (None, path),
+            None => (None, path.trim_end_matches(':')),
         };
         let upper = name.starts_with(|c: char| c.is_ascii_uppercase());
         upper.then(|| (place, name.to_string()))

@@ -62,7 +62,8 @@ pub fn without_comment(line: &str) -> &str {
     if line.trim_start().starts_with("--") || line.trim_start().starts_with("//") {
         return "";
     }
-    line.split(" -- ").next().unwrap_or(line)
+    let line = line.split(" -- ").next().unwrap_or(line);
+    line.split(" // ").next().unwrap_or(line)
 }
 
 /// A word's name: `x` of `x.field.field`, and of a path or a name in a module its first part.

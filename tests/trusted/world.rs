@@ -1,6 +1,6 @@
 //! All crates, what each name in them means, and what a root rests on.
 
-use crate::source::{self, Source};
+use crate::source::{self, Source, Struct};
 use crate::specs::{self, Declaration, File, Kind};
 use crate::words::{Scopes, Word, head};
 use std::collections::{BTreeMap, BTreeSet, HashMap};
@@ -35,6 +35,12 @@ pub struct World {
 
 /// Names of the language, which no file imports.
 const BUILT_IN: [&str; 5] = ["Type", "Unit", "tt", "⊥", "absurd"];
+
+/// Types and traits of the language's library, which no path names.
+const LIBRARY: [&str; 14] = [
+    "Result", "Option", "Ok", "Err", "Some", "None", "Self", "From", "TryFrom", "Error", "Copy",
+    "Clone", "Default", "Fn",
+];
 
 /// What the paths of the kit begin with.
 const KIT: [&str; 6] = [
@@ -197,6 +203,10 @@ impl World {
         let own = &source.functions[function];
         let mut scopes = Scopes::new(source.ghost.aliases.keys());
         scopes.bind("result");
+        scopes.bind("self");
+        for name in &own.generics {
+            scopes.bind(name);
+        }
         for word in &own.signature {
             if let Some(name) = word.text.strip_suffix(':') {
                 scopes.bind(name);
@@ -213,6 +223,7 @@ impl World {
             !imported(name) && source.knows(name)
         });
         let mut types = source::types(&own.signature);
+        types.retain(|(path, name)| path.is_some() || !own.generics.contains(name));
         let named = of_source.iter().map(|word| head(&word.text).to_string());
         types.extend(named.map(|name| (None, name)));
         let (mut items, errors) = self.resolve_all(&source.ghost, None, &free);
@@ -225,12 +236,29 @@ impl World {
     fn structs(&mut self, place: &str, types: Vec<(Option<String>, String)>) -> Vec<Item> {
         let mut items = Vec::new();
         for (path, name) in types {
+            if self.is_library(path.as_deref(), &name, place) {
+                continue;
+            }
             match self.declared(path.as_deref().unwrap_or(place), &name, place) {
                 Ok(item) => items.push(item),
                 Err(error) => _ = self.errors.insert(error),
             }
         }
         items
+    }
+
+    /// Whether a type is the language's library's, by its name or by a `use`.
+    fn is_library(&self, path: Option<&str>, name: &str, place: &str) -> bool {
+        let used = |name: &str| self.sources.get(place)?.used.get(name);
+        let own = self
+            .sources
+            .get(place)
+            .is_some_and(|source| source.structs.contains_key(name));
+        match path {
+            None if own => false,
+            None => used(name).map_or(LIBRARY.contains(&name), |used| used.starts_with("std")),
+            Some(path) => path.starts_with("std") || ["io", "fmt"].contains(&path),
+        }
     }
 
     /// Where a struct is declared: in this crate, or where a `use` leads.
@@ -266,9 +294,25 @@ impl World {
                 types.retain(|(path, case)| {
                     !declared.cases || path.is_some() || self.declared(place, case, place).is_ok()
                 });
-                self.structs(place, types).into_iter().collect()
+                let (mut items, errors) = self.ghosts(place, declared);
+                self.errors.extend(errors);
+                items.extend(self.structs(place, types));
+                items
             }
         }
+    }
+
+    /// What a struct's ghost fields name.
+    fn ghosts(&self, place: &str, declared: &Struct) -> (BTreeSet<Item>, Vec<String>) {
+        let ghost = &self.sources[place].ghost;
+        let mut scopes = Scopes::new(ghost.aliases.keys());
+        for word in &declared.body {
+            if let Some(name) = word.text.strip_suffix(':') {
+                scopes.bind(name);
+            }
+        }
+        let free = scopes.free(&declared.ghosts);
+        self.resolve_all(ghost, None, &free)
     }
 
     fn spec_names(&mut self, own: usize, declaration: usize, statement: bool) -> BTreeSet<Item> {
