@@ -68,7 +68,7 @@ fn main(rt: HostRuntime) -> io::Result<()> {
     let n = read_full(&mut rt.reader(), &mut input)?;
     let job = match job::read(&input[..n], &mut space) {
         Ok(job) => job,
-        Err(refusal) => return refuse(&mut out, refusal),
+        Err(refused) => return refuse(&mut out, refused.refusal),
     };
     let size = job.script.memory.min(4096);
     play(

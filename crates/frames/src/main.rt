@@ -5,12 +5,14 @@ use hexadecimal::Line;
 use refusal::Refusal;
 use std::io::{self, Read, Write};
 
-// Prints the text at a buffer's start, if it was written there. (`player::print` does so above the crates of a rehearsal, of
-// which this program needs none.)
+// Prints the text at a buffer's start, if there is any. It is called for each byte of the input, of which most print
+// nothing: as a function of its own, or with a call that writes nothing, it takes the program up to twice as long.
+// (`player::print` does so above the crates of a rehearsal, of which this program needs none.)
+#[inline]
 fn print<W: Write>(to: &mut W, out: &[u8], written: Result<usize, Refusal>) -> io::Result<()> {
     match written {
-        Ok(n) => to.write_all(text::part(out, 0, n)),
-        Err(_) => Ok(()),
+        Ok(n) if 0 < n => to.write_all(text::part(out, 0, n)),
+        _ => Ok(()),
     }
 }
 

@@ -1,5 +1,5 @@
 -- What a rehearsal's input asks for (PROTOCOL 8, 'Rehearsal'): its form is checked first, then its image.
-use Rattle.std.specs.Prelude.{ℕ, Result, Ok, Err, List, take, drop}
+use Rattle.std.specs.Prelude.{ℕ, ◌≡◌, Result, Ok, Err, List, take, drop}
 use Rattle.refusal.specs.declared.Refusal.{Refusal}
 use Rattle.refusal.specs.Refusal.{number}
 use Rattle.buffer.specs.Lay.{Output}
@@ -9,6 +9,7 @@ use Rattle.script.specs.declared.Script.{Script}
 use Rattle.script.specs.Script.{checked}
 use Rattle.job.specs.declared.Setup.{Setup}
 use Rattle.job.specs.declared.Job.{Job}
+use Rattle.job.specs.declared.Refused.{Refused}
 use Rattle.version.specs.Version.{v30}
 use Rattle.window.specs.Window.{none}
 
@@ -29,7 +30,7 @@ image_in input t space = decoded (hexadecimal (take t.image_length (drop t.image
 abbrev pub bytes_of : Output → List ℕ
 bytes_of o = take o.answer.length o.buffer
 
--- What is read of an input: refusal n, or 0 with a job; and the space that then holds the image.
+-- What is read of an input: refusal n, 0 for none, and what was asked for; and the space that then holds the image.
 pub record Reading : Type 0 where
   pub job : Job
   pub refusal : ℕ
@@ -57,3 +58,8 @@ read_by (Err r) input space = record { job = job nothing 0 0; refusal = number r
 
 abbrev pub reading : List ℕ → List ℕ → Reading
 reading input space = read_by (checked input) input space
+
+-- It is answered with refusal n, 0 for none, and this job in either case.
+abbrev pub Asked : Result Job Refused → ℕ → Job → Type 0
+Asked (Ok x) n v = (n ≡ 0) × (x ≡ v)
+Asked (Err e) n v = (n ≡ number e.refusal) × (e.job ≡ v)

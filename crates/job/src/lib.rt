@@ -4,9 +4,8 @@
 
 ghost use Rattle.std.specs.Prelude.{◌≡◌};
 ghost use Rattle.buffer.specs.Lay.{Came, written_of};
-ghost use Rattle.refusal.specs.Refusal.{Answers};
 ghost use Rattle.text.specs.Text.{placed};
-ghost use Rattle.job.specs.Job.{setup, reading};
+ghost use Rattle.job.specs.Job.{setup, job, nothing, Asked, reading};
 ghost use Rattle.job.specs.Run.{host_sends, frame_line, fresh_ends, end_line};
 
 use load_record::Session;
@@ -30,6 +29,14 @@ pub struct Job {
     pub script: Script,
     pub file: usize,
     pub segments: u64,
+}
+
+// Why an input is refused, and what it asked for as far as it was read: nothing where its form is wrong; else all but the
+// image's segments.
+#[derive(Clone, Copy)]
+pub struct Refused {
+    pub refusal: Refusal,
+    pub job: Job,
 }
 
 // Both ends, and the queues of what each has sent.
@@ -72,22 +79,55 @@ fn prepare(script: Script) -> Setup
     }
 }
 
-// What an input asks for: its form, then its image, whose bytes stand in the space afterwards. An image that does not fit
-// there is refused as one of no bytes.
-pub fn read(input: &[u8], space: &mut [u8]) -> Result<Job, Refusal>
-    ensures { (Answers result (reading input.now space.old).refusal (reading input.now space.old).job)
-        × (space.new ≡ (reading input.now space.old).space) }
+// An input of which nothing was read.
+fn nothing() -> Script
+    ensures { result ≡ nothing }
 {
-    let script = script::check(input)?;
-    let digits = text::part(input, script.image_at, script.image_length);
-    let file = hexadecimal::decode(digits, space).unwrap_or(0);
-    let image = segments::check(text::part(space, 0, file), script.segment_size)?;
-    Ok(Job {
+    Script {
+        memory: 0,
+        image_at: 0,
+        image_length: 0,
+        events_at: 0,
+        events_length: 0,
+        segment_size: 0,
+        repeats: 0,
+    }
+}
+
+// What an input asks for, with an image of so many bytes and segments.
+fn asked(script: Script, file: usize, segments: u64) -> Job
+    ensures { result ≡ job script file segments }
+{
+    Job {
         setup: prepare(script),
         script,
         file,
-        segments: image.segments,
-    })
+        segments,
+    }
+}
+
+// What an input asks for: its form, then its image, whose bytes stand in the space afterwards. An image that does not fit
+// there is refused as one of no bytes.
+pub fn read(input: &[u8], space: &mut [u8]) -> Result<Job, Refused>
+    ensures { (Asked result (reading input.now space.old).refusal (reading input.now space.old).job)
+        × (space.new ≡ (reading input.now space.old).space) }
+{
+    let script = match script::check(input) {
+        Ok(script) => script,
+        Err(refusal) => return Err(Refused {
+            refusal,
+            job: asked(nothing(), 0, 0),
+        }),
+    };
+    let digits = text::part(input, script.image_at, script.image_length);
+    let file = hexadecimal::decode(digits, space).unwrap_or(0);
+    match segments::check(text::part(space, 0, file), script.segment_size) {
+        Ok(image) => Ok(asked(script, file, image.segments)),
+        Err(refusal) => Err(Refused {
+            refusal,
+            job: asked(script, file, 0),
+        }),
+    }
 }
 
 // A waiting host and a Requesting machine; no frame is on its way.

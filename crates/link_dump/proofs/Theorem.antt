@@ -37,7 +37,7 @@ use Rattle.link_dump.specs.Model.{dump_ends, fresh_world, after, Copied, Dumped}
 use Rattle.link_dump.proofs.InvariantLaws.{given}
 use Rattle.link_dump.proofs.DumpedLaws.{dumped-alike, kept, kept-within, claimed, copied, untouched, whole, unrefused}
 
--- The fresh world is what the start calls leave: the host is `dump::start`'s; the machine and the one frame queued are what `machine::start_dump`
+-- The fresh world is what the start calls leave: the host is `dump::start`'s; the machine and the one frame queued are what `mop_machine_start_dump`
 -- left by its contract, if it was not refused.
 pub started_dump : (ms : MachineSettings) (m : Machine) (memory buffer reply reply' : List ℕ) (answer : Written)
     → machine_checks.refusal ms machine.offering (length memory) (length reply) ≡ 0 → Leaves (machine_timer ms machine.offering memory reply) m answer memory reply'

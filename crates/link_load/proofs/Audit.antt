@@ -65,7 +65,7 @@ use Rattle.link_load.proofs.BlockLaws.{spelled, left_alone}
 use Rattle.link_load.proofs.RefusalLaws.{unrefused}
 use Rattle.link_load.proofs.Theorem.{reported, never-reset}
 
--- The fresh world is what the start calls leave: the host is `load::start`'s; the machine and the one frame queued are what `machine::start_load`
+-- The fresh world is what the start calls leave: the host is `load::start`'s; the machine and the one frame queued are what `mop_machine_start_load`
 -- left by its contract, if it was not refused.
 pub started_load : (ms : MachineSettings) (m : Machine) (memory reply reply' : List ℕ) (answer : Written)
     → machine_checks.refusal ms machine.requesting (length memory) (length reply) ≡ 0 → Leaves (machine_timer ms machine.requesting memory reply) m answer memory reply'

@@ -2,8 +2,10 @@
 // C gives them.
 #![tactic(auto)]
 
-ghost use Rattle.std.specs.Prelude.{◌≡◌, true, ◌+◌, ◌*◌, ◌≤◌, IfOk};
+ghost use Rattle.std.specs.Prelude.{◌≡◌, true, ◌+◌, ◌*◌, ◌≤◌, MatchResult};
+ghost use Rattle.refusal.specs.Refusal.{number};
 ghost use Rattle.buffer.specs.Lay.{Came, written_of};
+ghost use Rattle.message.specs.Read.{refused_fields};
 ghost use Rattle.message.specs.Write.{sent};
 ghost use Rattle.directory.specs.Directory.{addresses};
 ghost use Rattle.step.specs.Step.{gives, Leaves};
@@ -36,7 +38,8 @@ pub fn start() -> Session
 // The frame that might go out on a frame; no load has more than one frame more than there are addresses. The code of a
 // frame is a number for C.
 fn ahead(session: Session, f: Result<Fields, Refusal>) -> u64
-    ensures { IfOk f (λ g. session.position ≤ addresses + 1 → result ≡ ahead session g) }
+    ensures { session.position ≤ addresses + 1
+        → MatchResult f (λ g. result ≡ ahead session g) (λ r. result ≡ ahead session (refused_fields (number r))) }
 {
     if matches!(f, Ok(f) if f.code == 8) {
         return 0;

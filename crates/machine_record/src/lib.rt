@@ -3,7 +3,7 @@
 
 ghost use Rattle.std.specs.Prelude.{◌≡◌, ◌<◌, MatchResult};
 ghost use Rattle.refusal.specs.declared.Refusal.TheVariants.{Setting};
-ghost use Rattle.machine_record.specs.Record.{number, idle, offering, requesting, loading, started, keeping, is};
+ghost use Rattle.machine_record.specs.Record.{number, in_state, idle, offering, requesting, loading, started, keeping, is};
 
 use buffer::Written;
 use parameters::Parameters;
@@ -80,61 +80,59 @@ pub struct Stepped {
     pub answer: Written,
 }
 
+// A machine of any numbers, those that no state has among them, since C may give any. `Machine` has those of the states.
+pub fn in_state(
+    state: u8,
+    expected: u8,
+    error: u8,
+    transfer: u32,
+    parameters: Parameters,
+) -> Machine
+    ensures { result ≡ in_state state expected error transfer parameters }
+{
+    Machine {
+        transfer,
+        state,
+        expected,
+        error,
+        parameters,
+    }
+}
+
 impl Machine {
     // An Idle machine.
     pub fn idle(parameters: Parameters) -> Machine
         ensures { result ≡ idle parameters }
     {
-        Machine {
-            transfer: 0,
-            state: State::Idle.into(),
-            expected: 0,
-            error: 0,
-            parameters,
-        }
+        in_state(State::Idle.into(), 0, 0, 0, parameters)
     }
 
     // A fresh Offering machine. One function for each state, as the definitions `offering` and `requesting` are.
     pub fn offering() -> Machine
         ensures { result ≡ offering }
     {
-        Machine {
-            state: State::Offering.into(),
-            ..Machine::idle(parameters::none())
-        }
+        in_state(State::Offering.into(), 0, 0, 0, parameters::none())
     }
 
     // A fresh Requesting machine.
     pub fn requesting() -> Machine
         ensures { result ≡ requesting }
     {
-        Machine {
-            state: State::Requesting.into(),
-            ..Machine::idle(parameters::none())
-        }
+        in_state(State::Requesting.into(), 0, 0, 0, parameters::none())
     }
 
     // A Loading machine, with its expected number and its last reply's error.
     pub fn loading(expected: u8, error: u8, parameters: Parameters) -> Machine
         ensures { result ≡ loading parameters expected error }
     {
-        Machine {
-            state: State::Loading.into(),
-            expected,
-            error,
-            ..Machine::idle(parameters)
-        }
+        in_state(State::Loading.into(), expected, error, 0, parameters)
     }
 
     // A Started machine, with its transfer address.
     pub fn started(transfer: u32, parameters: Parameters) -> Machine
         ensures { result ≡ started parameters transfer }
     {
-        Machine {
-            transfer,
-            state: State::Started.into(),
-            ..Machine::idle(parameters)
-        }
+        in_state(State::Started.into(), 0, 0, transfer, parameters)
     }
 
     // The same machine, with other parameters.

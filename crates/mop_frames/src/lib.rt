@@ -22,13 +22,7 @@ pub extern "C" fn mop_read(version: u8, frame: &[u8]) -> Fields
     if !version::known(version) {
         return Fields::from(Refusal::Setting);
     }
-    let mut f = message::BLANK;
-    if let Err(r) = reader::fill(version, frame, &mut f) {
-        // All else is 0 still. `Fields::from(r)` would store it anew.
-        f.refusal = r.into();
-        f.code = message::NO_CODE;
-    }
-    f
+    reader::answer(version, frame)
 }
 
 // A writer for each code. Its answer is mop_written of the header. All but that of code 20 write the same under each

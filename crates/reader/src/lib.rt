@@ -3,64 +3,80 @@
 
 ghost use Rattle.std.specs.Prelude.{◌≡◌, ◌≤◌, ◌+◌, length};
 ghost use Rattle.octets.specs.Number.{word};
+ghost use Rattle.refusal.specs.Refusal.{number};
 ghost use Rattle.message.specs.Read.{rows, find, numbers, fields, Reads};
-ghost use Rattle.reader_listed.specs.Filled.{Filled};
 ghost use Rattle.reader.specs.Row.{at_least, by_row};
 
 use message::Fields;
 use refusal::Refusal;
 
-// Reads a frame of any length and content under a version.
+// Reads a frame of any length and content under a version, as C is given it: its fields, its refusal among them. They are
+// answered by value, and each code returns by itself: fields that are lent and filled, and answers that meet, are moved once
+// more, which takes half as long again.
+pub fn answer(version: u8, s: &[u8]) -> Fields
+    ensures { result ≡ fields version s.now }
+{
+    if s.is_empty() {
+        return Fields::from(Refusal::Short);
+    }
+    if let Err(r) = codes::refusal(s[0], s.len()) {
+        return Fields::from(r);
+    }
+    by_code(version, s[0], s)
+}
+
+// The refusal of a number that reading answers.
+fn named(n: u8) -> Refusal
+    requires { (1 ≤ n) × (n ≤ 4) }
+    ensures { number result ≡ n }
+{
+    match n {
+        1 => Refusal::Short,
+        2 => Refusal::Long,
+        3 => Refusal::Code,
+        _ => Refusal::Field,
+    }
+}
+
+// The same, for callers inside: its fields or its refusal.
 pub fn read(version: u8, s: &[u8]) -> Result<Fields, Refusal>
     ensures { Reads result (fields version s.now) }
 {
-    let mut f = message::BLANK;
-    fill(version, s, &mut f)?;
-    Ok(f)
-}
-
-// Reads a frame into lent fields, which stay as they were if it is refused. Inlined it is slower: the fields are then moved
-// one by one. Frame and fields are lent, here and below, and one code asks for the version: a struct of them is no plainer.
-#[inline(never)]
-pub fn fill(version: u8, s: &[u8], f: &mut Fields) -> Result<(), Refusal>
-    ensures { Filled result f.old f.new (fields version s.now) }
-{
-    if s.is_empty() {
-        return Err(Refusal::Short);
+    let f = answer(version, s);
+    if f.refusal == 0 {
+        return Ok(f);
     }
-    codes::refusal(s[0], s.len())?;
-    by_code(version, s[0], s, f)
+    Err(named(f.refusal))
 }
 
 // A frame of this code, which has at least its least length. The code is a number and no enum: a frame may have any, and
 // `rows` of the crate message is the table of them that the clause names.
 #[tactic(auto, unfolding(message::specs::Read::find))]
-fn by_code(version: u8, code: u8, s: &[u8], f: &mut Fields) -> Result<(), Refusal>
+fn by_code(version: u8, code: u8, s: &[u8]) -> Fields
     requires { at_least (find rows code) ≤ length s.now }
-    ensures { Filled result f.old f.new (by_row version s.now (find rows code)) }
+    ensures { result ≡ by_row version s.now (find rows code) }
 {
     match code {
-        0 => *f = memory_load_transfer(s),
-        2 => *f = memory_load(s),
-        8 => return reader_listed::request_program(s, f),
-        10 => *f = request_load(s),
-        4 => *f = request_dump(s),
-        12 => *f = request_dump_service(s),
-        14 => *f = dump_data(s),
-        1 => *f = Fields {
+        0 => return memory_load_transfer(s),
+        2 => return memory_load(s),
+        8 => return reader_listed::request_program(s),
+        10 => return request_load(s),
+        4 => return request_dump(s),
+        12 => return request_dump_service(s),
+        14 => return dump_data(s),
+        1 => return Fields {
             code: 1,
             ..message::BLANK
         },
-        3 => *f = Fields {
+        3 => return Fields {
             code: 3,
             ..message::BLANK
         },
-        20 => return reader_listed::parameters(version, s, f),
-        24 => *f = loop_data(s),
-        26 => *f = looped_data(s),
-        _ => return Err(Refusal::Code),
+        20 => return reader_listed::parameters(version, s),
+        24 => return loop_data(s),
+        26 => return looped_data(s),
+        _ => return Fields::from(Refusal::Code),
     }
-    Ok(())
 }
 
 // The number of the two bytes from `at` on, which stand there. octets has the same for any bytes; its test for their end is

@@ -5,40 +5,39 @@ ghost use Rattle.std.specs.Prelude.{◌≡◌, cond, ℕ, ◌+◌, ◌≤◌, le
 ghost use Rattle.message.specs.Message.{id_length};
 ghost use Rattle.message.specs.Read.{byte, numbers, refused_fields, ended, judged};
 ghost use Rattle.refusal.specs.Refusal.{number_of};
-ghost use Rattle.reader_listed.specs.Filled.{Filled};
 
 use entries_next::Place;
 use message::Fields;
 use refusal::Refusal;
 
 // Code 8, request program: `Refusal::Short` below its least length, else its bytes in turn.
-pub fn request_program(s: &[u8], f: &mut Fields) -> Result<(), Refusal>
-    ensures { (version : ℕ) → Filled result f.old f.new (cond (ltb (length s.now) 6) (refused_fields 1) (judged version 8 6 6 s.now)) }
+pub fn request_program(s: &[u8]) -> Fields
+    ensures { (version : ℕ) → result ≡ cond (ltb (length s.now) 6) (refused_fields 1) (judged version 8 6 6 s.now) }
 {
     if s.len() < 6 {
-        return Err(Refusal::Short);
+        return Fields::from(Refusal::Short);
     }
     let program = s[3];
     if 2 < program {
-        return Err(Refusal::Field);
+        return Fields::from(Refusal::Field);
     }
     match s[4] {
-        form @ 0..=16 => with_id(s, usize::from(form), f),
-        254..=255 => with_id(s, 0, f),
-        _ => Err(Refusal::Field),
+        form @ 0..=16 => with_id(s, usize::from(form)),
+        254..=255 => with_id(s, 0),
+        _ => Fields::from(Refusal::Field),
     }
 }
 
 // A program request whose software id has n bytes.
-fn with_id(s: &[u8], n: usize, f: &mut Fields) -> Result<(), Refusal>
+fn with_id(s: &[u8], n: usize) -> Fields
     requires { (6 ≤ length s.now) × (n ≤ 16) × (n ≡ id_length (byte s.now 4)) }
-    ensures { Filled result f.old f.new (cond (ltb (length s.now) (6 + n)) (refused_fields 1) (numbers 0 8 6 6 s.now)) }
+    ensures { result ≡ cond (ltb (length s.now) (6 + n)) (refused_fields 1) (numbers 0 8 6 6 s.now) }
 {
     let end = 6 + n;
     if s.len() < end {
-        return Err(Refusal::Short);
+        return Fields::from(Refusal::Short);
     }
-    *f = Fields {
+    Fields {
         code: 8,
         device: s[1],
         format: s[2],
@@ -50,29 +49,27 @@ fn with_id(s: &[u8], n: usize, f: &mut Fields) -> Result<(), Refusal>
         data_at: end,
         data_length: s.len() - end,
         ..message::BLANK
-    };
-    Ok(())
+    }
 }
 
-// Code 20, parameter load with transfer, alike, under a version. Inlined, its calls make the reader save registers for every
-// code.
-#[inline(never)]
-pub fn parameters(version: u8, s: &[u8], f: &mut Fields) -> Result<(), Refusal>
-    ensures { Filled result f.old f.new (cond (ltb (length s.now) 7) (refused_fields 1) (judged version 20 2 7 s.now)) }
+// Code 20, parameter load with transfer, alike, under a version.
+pub fn parameters(version: u8, s: &[u8]) -> Fields
+    ensures { result ≡ cond (ltb (length s.now) 7) (refused_fields 1) (judged version 20 2 7 s.now) }
 {
     if s.len() < 7 {
-        return Err(Refusal::Short);
+        return Fields::from(Refusal::Short);
     }
-    ended(entries::walk(version, s, 2))?;
-    *f = Fields {
+    if let Err(r) = ended(entries::walk(version, s, 2)) {
+        return Fields::from(r);
+    }
+    Fields {
         code: 20,
         number: s[1],
         transfer: octets::word32(s, s.len() - 4),
         data_at: 2,
         data_length: s.len() - 7,
         ..message::BLANK
-    };
-    Ok(())
+    }
 }
 
 // What the place means at which the walk ended.
